@@ -1,0 +1,2 @@
+pub mod Gtrid
+pub mod Key

@@ -1,0 +1,80 @@
+//! Bytes that are shared, not copied.
+
+ghost use Rattle.std.specs.Prelude.{◌≡◌, ◌≤◌, ◌==◌, [], length, slice_range, IfOk};
+
+use crate::memory::Memory;
+use bytes::Bytes;
+use std::marker::Model;
+
+/// Shared bytes, seen as the list of them. A part of a blob shares the bytes of the whole.
+#[derive(Debug, Drop)]
+pub struct Blob {
+    bytes: Bytes,
+}
+
+impl Model for Blob {
+    ghost use Rattle.std.specs.Prelude.{List, ℕ};
+
+    ghost Value = { List ℕ };
+
+    ghost view = { λ blob. blob.bytes };
+}
+
+impl Blob {
+    /// A blob over these bytes.
+    pub fn from_bytes(bytes: Bytes) -> Blob
+        ensures { result ≡ bytes }
+    {
+        Blob { bytes }
+    }
+
+    /// No bytes, which takes no memory.
+    pub fn empty() -> Blob
+        ensures { result ≡ [] }
+    {
+        Blob {
+            bytes: Bytes::new(),
+        }
+    }
+
+    /// The bytes.
+    pub fn bytes(&self) -> &[u8]
+        ensures { result.now ≡ self.now }
+    {
+        self.bytes.as_slice()
+    }
+
+    /// How many bytes there are.
+    pub fn len(&self) -> usize
+        ensures { result ≡ length self.now }
+    {
+        self.bytes.len()
+    }
+
+    /// Whether there is no byte.
+    pub fn is_empty(&self) -> bool
+        ensures { result ≡ (length self.now == 0) }
+    {
+        self.bytes.is_empty()
+    }
+
+    /// The bytes `from` to `to` (not included), shared with this blob.
+    pub fn part(&self, from: usize, to: usize) -> Result<Blob, Memory>
+        requires ordered { from ≤ to }
+        requires within { to ≤ length self.now }
+        ensures { IfOk result (λ part. part ≡ slice_range self.now from to) }
+    {
+        Ok(Blob {
+            bytes: self.bytes.slice(from..to)?,
+        })
+    }
+
+    /// The same bytes, shared with this blob.
+    pub fn share(&self) -> Result<Blob, Memory>
+        ensures { IfOk result (λ blob. blob ≡ self.now) }
+    {
+        Ok(Blob {
+            bytes: self.bytes.clone()?,
+        })
+    }
+}

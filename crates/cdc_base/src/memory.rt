@@ -1,0 +1,19 @@
+//! Want of memory, the one answer that no clause ties to a cause.
+
+use std::alloc::{AllocError, AllocFailed};
+
+/// The allocator had no memory.
+#[derive(Clone, Copy, Debug, PartialEq, Eq)]
+pub struct Memory;
+
+impl From<AllocError> for Memory {
+    fn from(_error: AllocError) -> Memory {
+        Memory
+    }
+}
+
+impl<T: Drop> From<AllocFailed<T>> for Memory {
+    fn from(_error: AllocFailed<T>) -> Memory {
+        Memory
+    }
+}

@@ -1,0 +1,15 @@
+//! The events of a node's log, as the MySQL binary log (version 4) spells them.
+//!
+//! An event is a header of 19 bytes and a body; `specs/Event.antt` says which bytes spell which event.
+//! Called by the readers and printers of logs: the thin reader of `cdc_top`, `cdc_writer`.
+#![tactic(auto)]
+
+mod body;
+mod event;
+mod fault;
+mod header;
+
+pub use body::Body;
+pub use event::Event;
+pub use fault::{EventFault, ReadError};
+pub use header::{HEADER_LENGTH, Header};
