@@ -1,6 +1,6 @@
 //! The one list type: every list of the project is an alias of it.
 
-ghost use Rattle.std.specs.Prelude.{◌≡◌, ◌==◌, [], ◌∷◌, ◌++◌, length, slice_get, OnOk, OnErr, IfNone, IfSome};
+ghost use Rattle.std.specs.Prelude.{◌≡◌, ◌==◌, [], ◌∷◌, ◌++◌, length, slice_get, OnOk, OnErr, IfNone, IfSome, ◌<◌, ◌≤◌, slice_index_or, insert, remove};
 ghost use Rattle.std.specs.Option.{option_copied};
 
 use crate::memory::Memory;
@@ -59,6 +59,15 @@ impl<T> Items<T> {
         self.items.as_slice()
     }
 
+    /// Takes the item at a place out, and closes the gap.
+    pub fn remove(&mut self, place: usize) -> T
+        requires { place < length self.old }
+        ensures item { result ≡ slice_index_or self.old place result }
+        ensures rest { self.new ≡ remove self.old place }
+    {
+        self.items.remove(place)
+    }
+
     /// Takes the last item out; none exactly where there is none.
     pub fn pop(&mut self) -> Option<T>
         ensures some { IfSome result (λ item. self.old ≡ self.new ++ item ∷ []) }
@@ -75,6 +84,17 @@ impl<T: Drop> Items<T> {
         ensures err { OnErr result (self.new ≡ self.old) }
     {
         self.items.push(item)?;
+        Ok(())
+    }
+
+    /// Puts an item before the one at a place, or at the end. On `Memory` the list is unchanged, and the
+    /// item is let go.
+    pub fn insert(&mut self, place: usize, item: T) -> Result<(), Memory>
+        requires { place ≤ length self.old }
+        ensures ok { OnOk result (self.new ≡ insert self.old place item) }
+        ensures err { OnErr result (self.new ≡ self.old) }
+    {
+        self.items.insert(place, item)?;
         Ok(())
     }
 }
