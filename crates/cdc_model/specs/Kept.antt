@@ -1,0 +1,68 @@
+-- The facts that entries, branches and transactions keep.
+use Rattle.std.specs.Prelude.{◌+◌, ◌^◌, ◌<◌, ◌≤◌, IsTrue, length}
+use Rattle.std.specs.List.{AllByRecursion}
+use Rattle.cdc_base.specs.declared.key.Key.{Key}
+use Rattle.cdc_base.specs.declared.key.Key.TheVariants.{Shared, Plain as PlainKey}
+use Rattle.cdc_event.specs.Event.{FitsBody, has_kind, body_bytes}
+use Rattle.cdc_model.specs.declared.entry.EntryKind.{EntryKind}
+use Rattle.cdc_model.specs.declared.entry.EntryKind.TheVariants.{Prepare, OnePhase, Commit, Rollback, Plain, Beat}
+use Rattle.cdc_model.specs.declared.entry.Entry.TheInside.{Inside as InsideEntry}
+use Rattle.cdc_model.specs.declared.branch.Branch.TheInside.{Inside as InsideBranch}
+use Rattle.cdc_model.specs.declared.transaction.Txn.TheInside.{Inside as InsideTransaction}
+use Rattle.cdc_model.specs.declared.start.Opened.TheInside.{Inside as InsideOpened}
+use Rattle.cdc_model.specs.declared.start.StartingPoint.TheInside.{Inside as InsideStart}
+use Rattle.cdc_model.specs.Records.{Row, LogEntry, CommittedBranch, Transaction, OpenBranch, Start}
+
+-- a row is an event of its type of at most 2^27 bytes
+pub record IsRow (row : Row) : Type 0 where
+  pub fits : FitsBody row.1
+  pub kind : IsTrue (has_kind row.1 row.0)
+  pub numbered : row.0 < 256
+  pub most : 19 + length (body_bytes row.1) ≤ 2 ^ 27
+
+-- timestamps are below 2^63, and rows are events
+abbrev pub IsKeptKind : EntryKind → Type 0
+IsKeptKind (Prepare xid rows) = AllByRecursion IsRow rows
+IsKeptKind (OnePhase xid rows timestamp seconds) = AllByRecursion IsRow rows × (timestamp < 2 ^ 63)
+IsKeptKind (Commit xid timestamp seconds) = timestamp < 2 ^ 63
+IsKeptKind (Rollback xid) = Unit {0}
+IsKeptKind (Plain rows seconds) = AllByRecursion IsRow rows
+IsKeptKind (Beat timestamp) = timestamp < 2 ^ 63
+
+-- a key's timestamp is below 2^63, and its node is from 1 to 256
+abbrev pub IsKeptKey : Key → Type 0
+IsKeptKey (Shared timestamp gtrid) = timestamp < 2 ^ 63
+IsKeptKey (PlainKey timestamp node entry) = (timestamp < 2 ^ 63) × (1 ≤ node) × (node ≤ 256)
+
+abbrev pub entry_seen : InsideEntry → LogEntry
+entry_seen e = record { kind = e.kind; at = e.at; end = e.end; checksum = e.checksum }
+
+pub record IsKeptEntry (e : InsideEntry) : Type 0 where
+  pub kind : IsKeptKind e.kind
+  pub setting : e.checksum ≤ 1
+
+abbrev pub branch_seen : InsideBranch → CommittedBranch
+branch_seen b = record { key = b.key; entry = b.entry; seconds = b.seconds; rows = b.rows }
+
+pub record IsKeptBranch (b : InsideBranch) : Type 0 where
+  pub key : IsKeptKey b.key
+  pub rows : AllByRecursion IsRow b.rows
+
+abbrev pub transaction_seen : InsideTransaction → Transaction
+transaction_seen t = record { number = t.number; key = t.key; seconds = t.seconds; branches = t.branches }
+
+abbrev pub IsKeptTransaction : InsideTransaction → Type 0
+IsKeptTransaction t = IsKeptKey t.key
+
+abbrev pub opened_seen : InsideOpened → OpenBranch
+opened_seen o = record { xid = o.xid; floor = o.floor; entry = o.entry; rows = o.rows }
+
+pub record IsKeptOpened (o : InsideOpened) : Type 0 where
+  pub floor : o.floor < 2 ^ 63
+  pub rows : AllByRecursion IsRow o.rows
+
+abbrev pub start_seen : InsideStart → Start
+start_seen s = record { entry = s.entry; mark = s.mark; opened = s.opened }
+
+abbrev pub IsKeptStart : InsideStart → Type 0
+IsKeptStart s = s.mark < 2 ^ 63

@@ -1,0 +1,10 @@
+pub mod Records
+pub mod Kept
+pub mod Log
+pub mod Start
+pub mod Watermark
+pub mod Soundness
+pub mod Branch
+pub mod Print
+pub mod Transaction
+pub mod Output

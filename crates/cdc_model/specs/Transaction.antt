@@ -1,0 +1,109 @@
+-- The global order: which transactions are settled, in which order, and under which numbers.
+use Rattle.std.specs.Prelude.{◌≡◌, ℕ, zero, suc, ◌+◌, ◌^◌, ◌↔◌, nat_lt, Bool, IsTrue, List, [], ◌∷◌, map, filter, if◌then◌else◌, slice_get, Option, Some, None, Contains}
+use Rattle.std.specs.List.{flat_map, enumerate_from, fold, find, before_first}
+use Rattle.std.specs.List.Sorted.{IsStrictlySortedBy}
+use Rattle.std.specs.Ordering.{is_eq}
+use Rattle.std.specs.declared.cmp.Ordering.{Ordering}
+use Rattle.std.specs.declared.cmp.Ordering.TheVariants.{Less, Equal, Greater}
+use Rattle.cdc_base.specs.declared.key.Key.{Key}
+use Rattle.cdc_base.specs.declared.key.Key.TheVariants.{Shared}
+use Rattle.cdc_base.specs.declared.rename.Rename.{Rename}
+use Rattle.cdc_base.specs.Key.{key_order}
+use Rattle.cdc_model.specs.declared.start.NodeLog.{NodeLog}
+use Rattle.cdc_model.specs.Records.{CommittedBranch, Transaction}
+use Rattle.cdc_model.specs.Watermark.{node_low_water_mark, low_water_mark}
+use Rattle.cdc_model.specs.Soundness.{sound_history, reached}
+use Rattle.cdc_model.specs.Branch.{committed_branches, is_settled}
+use Rattle.cdc_model.specs.Print.{printed_length}
+
+-- the committed branches of one node, and of all nodes, node 1 first
+abbrev pub node_branches : Key → ℕ × NodeLog → List CommittedBranch
+node_branches last node = committed_branches last node.1.start node.0 (sound_history node.1)
+
+abbrev pub all_branches : Key → List NodeLog → List CommittedBranch
+all_branches last logs = flat_map (node_branches last) (enumerate_from 1 logs)
+
+-- the low-water mark of all logs
+abbrev pub logs_low_water_mark : List NodeLog → ℕ
+logs_low_water_mark logs = low_water_mark (map (λ log. node_low_water_mark (reached log)) logs)
+
+-- a key at its place among others in order; one that is there already is dropped
+abbrev pub placed : Ordering → Key → Key → List Key → List Key → List Key
+placed Less key first rest later = key ∷ first ∷ rest
+placed Equal key first rest later = first ∷ rest
+placed Greater key first rest later = first ∷ later
+
+abbrev pub put : Key → List Key → List Key
+put key [] = key ∷ []
+put key (first ∷ rest) = placed (key_order key first) key first rest (put key rest)
+
+-- the settled keys of some branches, in order, each once
+abbrev pub add_settled : ℕ → List Key → CommittedBranch → List Key
+add_settled mark keys branch = if is_settled mark branch.key then put branch.key keys else keys
+
+abbrev pub settled_keys : ℕ → List CommittedBranch → List Key
+settled_keys mark branches = fold (add_settled mark) [] branches
+
+-- a branch belongs to the transaction of its key
+abbrev pub has_key : Key → CommittedBranch → Bool
+has_key key branch = is_eq (key_order key branch.key)
+
+abbrev pub first_seconds : List CommittedBranch → ℕ
+first_seconds [] = 0
+first_seconds (branch ∷ branches) = branch.seconds
+
+-- the transaction of a key: all branches under it, by node and then by entry
+abbrev pub transaction_of : List CommittedBranch → ℕ → Key → Transaction
+transaction_of branches number key =
+    let own = filter (has_key key) branches in
+    record { number = number; key = key; seconds = first_seconds own; branches = own }
+
+-- the transactions of some keys, numbered one after another
+abbrev pub transactions_of : List CommittedBranch → ℕ → List Key → List Transaction
+transactions_of branches number [] = []
+transactions_of branches number (key ∷ keys) = transaction_of branches number key ∷ transactions_of branches (number + 1) keys
+
+-- all transactions whose keys are settled, in the global order; the numbers go on behind a count, and the keys
+-- lie above a last one
+abbrev pub ordered_transactions : ℕ → Key → List NodeLog → List Transaction
+ordered_transactions count last logs =
+    let branches = all_branches last logs in
+    transactions_of branches (count + 1) (settled_keys (logs_low_water_mark logs) branches)
+
+-- a transaction whose print has more than 2^28 bytes ends the order
+abbrev pub is_oversized : List Rename → Transaction → Bool
+is_oversized rules txn = nat_lt (2 ^ 28) (printed_length rules txn)
+
+-- the settled transactions: those in the global order before the first oversized one
+abbrev pub settled_transactions : List Rename → ℕ → Key → List NodeLog → List Transaction
+settled_transactions rules count last logs = before_first (is_oversized rules) (ordered_transactions count last logs)
+
+-- the oversized transaction, where there is one
+abbrev pub oversized_transaction : List Rename → ℕ → Key → List NodeLog → Option Transaction
+oversized_transaction rules count last logs = find (is_oversized rules) (ordered_transactions count last logs)
+
+-- the key before all others, and that of the n-th transaction
+abbrev pub first_key : Key
+first_key = Shared 0 []
+
+abbrev pub key_or_first : Option Transaction → Key
+key_or_first None = first_key
+key_or_first (Some txn) = txn.key
+
+abbrev pub key_at : List Transaction → ℕ → Key
+key_at txns zero = first_key
+key_at txns (suc before) = key_or_first (slice_get txns before)
+
+-- what the global order means: keys strictly ascend, and are exactly the settled keys of the branches; each
+-- transaction has all branches of its key, in their order
+pub record AreTransactionsOf (mark : ℕ) (branches : List CommittedBranch) (txns : List Transaction) : Type 0 where
+  pub ascending : IsStrictlySortedBy key_order (map (λ (txn : Transaction). txn.key) txns)
+  pub exact : (key : Key)
+      → Contains (map (λ (txn : Transaction). txn.key) txns) key
+      ↔ (IsTrue (is_settled mark key) × Contains (map (λ (branch : CommittedBranch). branch.key) branches) key)
+  pub whole : (txn : Transaction) → Contains txns txn → txn.branches ≡ filter (has_key txn.key) branches
+
+-- law: the ordered transactions are those of the settled keys
+abbrev pub OrderIsExact : Type 0
+OrderIsExact = (count : ℕ) (last : Key) (logs : List NodeLog)
+    → AreTransactionsOf (logs_low_water_mark logs) (all_branches last logs) (ordered_transactions count last logs)

@@ -1,0 +1,30 @@
+//! Committed branches.
+
+use crate::rows::RowList;
+use cdc_base::{Items, Key};
+use std::marker::Model;
+
+/// A committed branch of a transaction: its key, the number of the entry that committed it, that entry's
+/// seconds, and the rows.
+#[derive(Debug, Drop)]
+pub struct Branch {
+    pub key: Key,
+    pub entry: u64,
+    pub seconds: u32,
+    pub rows: RowList,
+}
+
+/// A list of branches.
+pub type BranchList = Items<Branch>;
+
+impl Model for Branch {
+    ghost use Rattle.cdc_model.specs.Records.{CommittedBranch};
+
+    ghost Value = { CommittedBranch };
+
+    ghost use Rattle.cdc_model.specs.Kept.{branch_seen, IsKeptBranch};
+
+    ghost view = { branch_seen };
+
+    ghost invariant = { IsKeptBranch };
+}
