@@ -1,5 +1,6 @@
 -- The output files: each transaction's print behind the others, cut into files by the rotation size.
-use Rattle.std.specs.Prelude.{ℕ, ◌+◌, nat_le, nat_lt, true, false, List, [], ◌∷◌, ◌++◌, length, codes, replicate, if◌then◌else◌, Option, Some, None}
+use Rattle.std.specs.Prelude.{◌≡◌, ℕ, ◌+◌, ◌<◌, ◌≤◌, nat_le, nat_lt, true, false, List, [], ◌∷◌, ◌++◌, length, codes, replicate, if◌then◌else◌, Option, Some, None}
+use Rattle.std.specs.List.{flat_map}
 use Rattle.std.specs.Fmt.{decimal}
 use Rattle.cdc_base.specs.declared.rename.Rename.{Rename}
 use Rattle.cdc_event.specs.declared.body.Body.TheVariants.{Format, Rotate}
@@ -88,6 +89,55 @@ layout_of rules rotation txns = layout_in (output_after rules rotation no_output
 -- the output files of all logs, read whole
 abbrev pub expected_files : List Rename → ℕ → List NodeLog → List (List ℕ)
 expected_files rules rotation logs = files_of rules rotation (settled_transactions rules 0 first_key logs)
+
+-- ---- what the files are, in other words
+
+-- prints one behind another, each at its place
+abbrev pub prints_at : List Rename → ℕ → List Transaction → List ℕ
+prints_at rules at [] = []
+prints_at rules at (txn ∷ txns) = printed_bytes rules txn at ++ prints_at rules (at + printed_length rules txn) txns
+
+-- a file with these transactions: its head, then their prints
+abbrev pub file_with : List Rename → List Transaction → List ℕ
+file_with rules txns = file_head ++ prints_at rules (length file_head) txns
+
+-- a file that has the rotation size is closed by a ROTATE event that names the next one
+abbrev pub closed_where_full : ℕ → ℕ → List ℕ → List ℕ
+closed_where_full rotation number file =
+    if nat_le rotation (length file) then file ++ rotate_event (length file) (number + 1) else file
+
+-- output file `number` has these transactions: at least one; its head, then their prints, and ROTATE exactly
+-- where it has the rotation size; before its last transaction it had not
+pub record IsOutputFile (rules : List Rename) (rotation number : ℕ) (txns : List Transaction) (file : List ℕ) : Type 0 where
+  pub some : 1 ≤ length txns
+  pub bytes : file ≡ closed_where_full rotation number (file_with rules txns)
+  pub not_before : (front back : List Transaction) → txns ≡ front ++ back → 1 ≤ length front → 1 ≤ length back
+      → length (file_with rules front) < rotation
+
+-- output files have these lists of transactions; all but the last have the rotation size
+abbrev pub AreOutputFiles : List Rename → ℕ → ℕ → List (List Transaction) → List (List ℕ) → Type 0
+AreOutputFiles rules rotation number [] [] = Unit {0}
+AreOutputFiles rules rotation number [] (file ∷ files) = ⊥
+AreOutputFiles rules rotation number (txns ∷ lists) [] = ⊥
+AreOutputFiles rules rotation number (txns ∷ lists) (file ∷ files) =
+    IsOutputFile rules rotation number txns file
+    × (1 ≤ length lists → rotation ≤ length (file_with rules txns))
+    × AreOutputFiles rules rotation (number + 1) lists files
+
+-- law: the transactions, in order, are those of the output files one after another
+pub record AreFilesOf (rules : List Rename) (rotation : ℕ) (txns : List Transaction) (files : List (List ℕ)) : Type 0 where
+  pub lists : List (List Transaction)
+  pub in_order : flat_map (λ (list : List Transaction). list) lists ≡ txns
+  pub each : AreOutputFiles rules rotation 1 lists files
+
+abbrev pub FilesAreWhole : Type 0
+FilesAreWhole = (rules : List Rename) (rotation : ℕ) (txns : List Transaction)
+    → AreFilesOf rules rotation txns (files_of rules rotation txns)
+
+-- law: the files of some transactions and one more are one step of the output
+abbrev pub OneMoreIsOneStep : Type 0
+OneMoreIsOneStep = (rules : List Rename) (rotation : ℕ) (txns : List Transaction) (txn : Transaction)
+    → output_after rules rotation no_output (txns ++ txn ∷ []) ≡ output_with rules rotation (output_after rules rotation no_output txns) txn
 
 -- ---- one file, without rotation and renaming
 

@@ -1,5 +1,5 @@
 -- The global order: which transactions are settled, in which order, and under which numbers.
-use Rattle.std.specs.Prelude.{◌≡◌, ℕ, zero, suc, ◌+◌, ◌^◌, ◌↔◌, nat_lt, Bool, IsTrue, List, [], ◌∷◌, map, filter, if◌then◌else◌, slice_get, Option, Some, None, Contains}
+use Rattle.std.specs.Prelude.{◌≡◌, ℕ, zero, suc, ◌+◌, ◌^◌, ◌<◌, ◌≤◌, ◌↔◌, nat_lt, Bool, IsTrue, List, [], ◌∷◌, map, filter, length, if◌then◌else◌, slice_get, Option, Some, None, Contains}
 use Rattle.std.specs.List.{flat_map, enumerate_from, fold, find, before_first}
 use Rattle.std.specs.List.Sorted.{IsStrictlySortedBy}
 use Rattle.std.specs.Ordering.{is_eq}
@@ -94,16 +94,45 @@ abbrev pub key_at : List Transaction → ℕ → Key
 key_at txns zero = first_key
 key_at txns (suc before) = key_or_first (slice_get txns before)
 
--- what the global order means: keys strictly ascend, and are exactly the settled keys of the branches; each
--- transaction has all branches of its key, in their order
-pub record AreTransactionsOf (mark : ℕ) (branches : List CommittedBranch) (txns : List Transaction) : Type 0 where
-  pub ascending : IsStrictlySortedBy key_order (map (λ (txn : Transaction). txn.key) txns)
-  pub exact : (key : Key)
-      → Contains (map (λ (txn : Transaction). txn.key) txns) key
-      ↔ (IsTrue (is_settled mark key) × Contains (map (λ (branch : CommittedBranch). branch.key) branches) key)
-  pub whole : (txn : Transaction) → Contains txns txn → txn.branches ≡ filter (has_key txn.key) branches
+-- numbers one after another
+abbrev pub numbers_from : ℕ → ℕ → List ℕ
+numbers_from first zero = []
+numbers_from first (suc count) = first ∷ numbers_from (first + 1) count
 
--- law: the ordered transactions are those of the settled keys
+-- a key below that of the transaction that ends the order, where there is one
+abbrev pub IsBelow : Option Transaction → Key → Type 0
+IsBelow None key = Unit {0}
+IsBelow (Some txn) key = key_order key txn.key ≡ Less
+
+-- a key that is settled, that some branch has, and that stands below the end of the order
+pub record IsSettledKey (mark : ℕ) (branches : List CommittedBranch) (end : Option Transaction) (key : Key) : Type 0 where
+  pub settled : IsTrue (is_settled mark key)
+  pub present : Contains (map (λ (branch : CommittedBranch). branch.key) branches) key
+  pub below : IsBelow end key
+
+-- what the global order means: keys strictly ascend, and are exactly the settled keys of the branches; each
+-- transaction has all branches of its key, in their order; numbers go on behind the count
+pub record AreTransactionsOf (count mark : ℕ) (branches : List CommittedBranch) (end : Option Transaction) (txns : List Transaction) : Type 0 where
+  pub ascending : IsStrictlySortedBy key_order (map (λ (txn : Transaction). txn.key) txns)
+  pub exact : (key : Key) → Contains (map (λ (txn : Transaction). txn.key) txns) key ↔ IsSettledKey mark branches end key
+  pub whole : (txn : Transaction) → Contains txns txn → txn.branches ≡ filter (has_key txn.key) branches
+  pub numbered : map (λ (txn : Transaction). txn.number) txns ≡ numbers_from (count + 1) (length txns)
+
+-- law: the ordered transactions are those of all settled keys
 abbrev pub OrderIsExact : Type 0
 OrderIsExact = (count : ℕ) (last : Key) (logs : List NodeLog)
-    → AreTransactionsOf (logs_low_water_mark logs) (all_branches last logs) (ordered_transactions count last logs)
+    → AreTransactionsOf count (logs_low_water_mark logs) (all_branches last logs) None (ordered_transactions count last logs)
+
+-- law: the settled transactions are those of the settled keys below the oversized transaction's
+abbrev pub SettledIsExact : Type 0
+SettledIsExact = (rules : List Rename) (count : ℕ) (last : Key) (logs : List NodeLog)
+    → AreTransactionsOf count (logs_low_water_mark logs) (all_branches last logs) (oversized_transaction rules count last logs) (settled_transactions rules count last logs)
+
+-- law: a settled transaction's print has at most 2^28 bytes, the oversized one's has more
+pub record OversizedEnds (rules : List Rename) (settled : List Transaction) (oversized : Option Transaction) : Type 0 where
+  pub fits : (txn : Transaction) → Contains settled txn → printed_length rules txn ≤ 2 ^ 28
+  pub above : (txn : Transaction) → oversized ≡ Some txn → 2 ^ 28 < printed_length rules txn
+
+abbrev pub SettledFit : Type 0
+SettledFit = (rules : List Rename) (count : ℕ) (last : Key) (logs : List NodeLog)
+    → OversizedEnds rules (settled_transactions rules count last logs) (oversized_transaction rules count last logs)
