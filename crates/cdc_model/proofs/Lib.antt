@@ -1,1 +1,2 @@
+mod Removal
 mod Worked

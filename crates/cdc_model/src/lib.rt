@@ -7,17 +7,22 @@
 #![tactic(auto)]
 
 mod branch;
+mod committed;
 mod entry;
 mod fault;
 mod layout;
+mod open_branches;
 mod rows;
+mod soundness;
 mod start;
 mod transaction;
 
 pub use branch::{Branch, BranchList};
+pub use committed::{Reading, read_log};
 pub use entry::{Entry, EntryKind, EntryList};
 pub use fault::SortFault;
 pub use layout::Layout;
-pub use rows::RowList;
+pub use rows::{RowList, share_rows};
+pub use soundness::{entry_fault, sound_count};
 pub use start::{NodeLog, OpenList, Opened, StartingPoint};
 pub use transaction::{Txn, TxnList};
