@@ -1,2 +1,3 @@
+mod KeptKeys
 mod Removal
 mod Worked

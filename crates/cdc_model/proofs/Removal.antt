@@ -25,7 +25,7 @@ found {X} test (x ∷ xs) from place h = by (test x) refl (found test xs (from +
           steps = 0;
           counted = omega (arith, n);
           within = omega arith;
-          others = rw e refl
+          others = rw e refl;
         }
     by false e later =
         let rest : position_from test (from + 1) xs ≡ Some place = rw e at h in
@@ -34,7 +34,7 @@ found {X} test (x ∷ xs) from place h = by (test x) refl (found test xs (from +
           steps = suc f.steps;
           counted = omega (arith, f.counted);
           within = omega (arith, f.within);
-          others = rw e (ap (λ ys. x ∷ ys) f.others)
+          others = rw e (ap (λ ys. x ∷ ys) f.others);
         }
 
 -- where none passes, all are left
@@ -63,7 +63,7 @@ without_at xid opened place h =
     record {
       within = within;
       smaller = omega (arith, length-remove opened place within);
-      others = ap (λ at. without xid (remove opened at)) (sym same) ∙ f.others
+      others = ap (λ at. without xid (remove opened at)) (sym same) ∙ f.others;
     }
 
 pub without_none : (xid : Xid) (opened : List OpenBranch)

@@ -1,10 +1,9 @@
 //! The branches that a node's log commits.
 
-ghost use Rattle.std.specs.Prelude.{◌≡◌, ◌+◌, ◌<◌, ◌≤◌, ◌^◌, ◌++◌, [], ◌∷◌, Some, length, take, reverse, IfOk, OnOk};
+ghost use Rattle.std.specs.Prelude.{◌≡◌, ◌+◌, ◌<◌, ◌≤◌, ◌^◌, ◌++◌, [], ◌∷◌, Some, length, reverse, IfOk, OnOk};
 ghost use Rattle.std.specs.Option.{option_to_list};
 ghost use Rattle.cdc_model.specs.Kept.{IsKeptKey};
-ghost use Rattle.cdc_model.specs.Start.{left};
-ghost use Rattle.cdc_model.specs.Soundness.{reached};
+ghost use Rattle.cdc_model.specs.Soundness.{IsCounted};
 ghost use Rattle.cdc_model.specs.Branch as branch;
 ghost use Rattle.cdc_model.specs.Transaction as transaction;
 
@@ -136,48 +135,43 @@ fn add_branch(
     Ok(())
 }
 
-/// What the reading of a node's log comes to: its new branches, and where it has got to.
-#[derive(Debug, Drop)]
-pub struct Reading {
-    pub branches: BranchList,
-    pub reached: StartingPoint,
-}
-
-/// Goes over sound entries from a starting point.
-fn read_entries(
+/// Appends the branches that sound entries commit from a starting point on, with keys above `last`.
+fn add_committed(
     alloc: Global,
+    branches: &mut BranchList,
     last: &Key,
     node: u32,
     first: &StartingPoint,
     entries: &[Entry],
-) -> Result<Reading, Memory>
+) -> Result<(), Memory>
     requires first { 1 ≤ node }
     requires last { node ≤ 256 }
     requires counted { first.now.entry + length entries.now < 2 ^ 64 }
-    ensures reached { IfOk result (λ r. r.reached ≡ left first.now (reverse entries.now)) }
-    ensures branches { IfOk result (λ r. r.branches ≡ branch.committed_branches last.now first.now node (reverse entries.now)) }
+    ensures { OnOk result (branches.new ≡ branches.old ++ branch.committed_branches last.now first.now node (reverse entries.now)) }
 {
     let mut start = first.share(alloc)?;
-    let mut branches = BranchList::new(alloc);
     for entry in entries {
-        add_branch(alloc, &mut branches, last, first, node, entry, &start)?;
+        add_branch(alloc, branches, last, first, node, entry, &start)?;
         start.advance(alloc, entry)?;
     }
-    Ok(Reading {
-        branches,
-        reached: start,
-    })
+    Ok(())
 }
 
-/// Reads a node's log up to its first unsound entry: the branches that it commits with keys above `last`, and
-/// where the reading stands behind its sound entries.
-pub fn read_log(alloc: Global, last: &Key, node: u32, log: &NodeLog) -> Result<Reading, Memory>
+/// Appends the branches that a node's log commits before its first unsound entry, with keys above `last`. On
+/// `Memory` the list may have some of them.
+pub fn add_node_branches(
+    alloc: Global,
+    branches: &mut BranchList,
+    last: &Key,
+    node: u32,
+    log: &NodeLog,
+) -> Result<(), Memory>
     requires first { 1 ≤ node }
     requires last { node ≤ 256 }
-    requires counted { log.now.start.entry + length log.now.entries < 2 ^ 64 }
-    ensures reached { IfOk result (λ r. r.reached ≡ reached log.now) }
-    ensures branches { IfOk result (λ r. r.branches ≡ transaction.node_branches last.now (node, log.now)) }
+    requires counted { IsCounted log.now }
+    ensures { OnOk result (branches.new ≡ branches.old ++ transaction.node_branches last.now (node, log.now)) }
 {
     let count = sound_count(alloc, log)?;
-    read_entries(alloc, last, node, &log.start, &log.entries.as_slice()[..count])
+    let sound = &log.entries.as_slice()[..count];
+    add_committed(alloc, branches, last, node, &log.start, sound)
 }

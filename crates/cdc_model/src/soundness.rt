@@ -1,6 +1,8 @@
 //! Which entries of a log are sound.
 
-ghost use Rattle.std.specs.Prelude.{◌≡◌, ◌+◌, ◌<◌, ◌≤◌, ◌^◌, length, take, IfOk};
+ghost use Rattle.std.specs.Prelude.{◌≡◌, ◌+◌, ◌<◌, ◌≤◌, ◌^◌, length, take, reverse, IfOk};
+ghost use Rattle.cdc_model.specs.Start.{left};
+ghost use Rattle.cdc_model.specs.Soundness.{IsCounted};
 ghost use Rattle.cdc_model.specs.Soundness as soundness;
 
 use crate::entry::{Entry, EntryKind};
@@ -49,7 +51,7 @@ pub fn entry_fault(kind: &EntryKind, start: &StartingPoint) -> Option<SortFault>
 
 /// How many entries of a log are sound, from its first on.
 pub fn sound_count(alloc: Global, log: &NodeLog) -> Result<usize, Memory>
-    requires { log.now.start.entry + length log.now.entries < 2 ^ 64 }
+    requires { IsCounted log.now }
     ensures within { IfOk result (λ count. count ≤ length log.now.entries) }
     ensures sound { IfOk result (λ count. take count log.now.entries ≡ soundness.sound_entries log.now.start log.now.entries) }
 {
@@ -62,4 +64,25 @@ pub fn sound_count(alloc: Global, log: &NodeLog) -> Result<usize, Memory>
         start.advance(alloc, entry)?;
     }
     Ok(entries.len())
+}
+
+/// Where entries lead from a starting point.
+fn follow(alloc: Global, first: &StartingPoint, entries: &[Entry]) -> Result<StartingPoint, Memory>
+    requires { first.now.entry + length entries.now < 2 ^ 64 }
+    ensures { IfOk result (λ start. start ≡ left first.now (reverse entries.now)) }
+{
+    let mut start = first.share(alloc)?;
+    for entry in entries {
+        start.advance(alloc, entry)?;
+    }
+    Ok(start)
+}
+
+/// Where the reading of a log stands behind its sound entries.
+pub fn reached(alloc: Global, log: &NodeLog) -> Result<StartingPoint, Memory>
+    requires { IsCounted log.now }
+    ensures { IfOk result (λ start. start ≡ soundness.reached log.now) }
+{
+    let count = sound_count(alloc, log)?;
+    follow(alloc, &log.start, &log.entries.as_slice()[..count])
 }
