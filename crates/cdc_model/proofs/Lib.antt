@@ -1,1 +1,6 @@
 mod Worked
+mod Members
+mod OpenBranches
+mod Marks
+mod SoundFront
+mod LogPrefix

@@ -9,6 +9,7 @@
 mod branch;
 mod entry;
 mod fault;
+mod laws;
 mod layout;
 mod rows;
 mod start;
@@ -17,6 +18,10 @@ mod transaction;
 pub use branch::{Branch, BranchList};
 pub use entry::{Entry, EntryKind, EntryList};
 pub use fault::SortFault;
+pub use laws::{
+    grown_log_continues, log_prefix_is_an_order, mark_is_greatest, mark_is_least,
+    node_mark_is_least, numbers_count, open_as_newest_says, sound_is_longest,
+};
 pub use layout::Layout;
 pub use rows::RowList;
 pub use start::{NodeLog, OpenList, Opened, StartingPoint};
