@@ -4,3 +4,8 @@ mod OpenBranches
 mod Marks
 mod SoundFront
 mod LogPrefix
+mod KeyList
+mod SettledKeys
+mod Order
+mod OrderCut
+mod Files

@@ -19,8 +19,9 @@ pub use branch::{Branch, BranchList};
 pub use entry::{Entry, EntryKind, EntryList};
 pub use fault::SortFault;
 pub use laws::{
-    grown_log_continues, log_prefix_is_an_order, mark_is_greatest, mark_is_least,
-    node_mark_is_least, numbers_count, open_as_newest_says, sound_is_longest,
+    files_are_whole, grown_log_continues, log_prefix_is_an_order, mark_is_greatest, mark_is_least,
+    node_mark_is_least, numbers_count, one_more_is_one_step, open_as_newest_says, order_is_exact,
+    settled_fit, settled_is_exact, sound_is_longest,
 };
 pub use layout::Layout;
 pub use rows::RowList;
