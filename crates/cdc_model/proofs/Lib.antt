@@ -8,4 +8,5 @@ mod KeyList
 mod SettledKeys
 mod Order
 mod OrderCut
+mod PrintLength
 mod Files

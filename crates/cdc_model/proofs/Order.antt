@@ -1,9 +1,8 @@
 -- The global order: what the ordered transactions are.
-use Rattle.std.proofs.Common.{◌≡◌, ℕ, ◌+◌, ◌↔◌, List, [], ◌∷◌, map, filter, length, Option, None, Contains, inl, inr, ap, sym, refl, subst, ◌∙◌}
+use Rattle.std.proofs.Common.{◌≡◌, ℕ, ◌+◌, ◌↔◌, List, [], ◌∷◌, map, filter, length, None, Contains, inl, inr, ap, sym, refl, subst}
 use Rattle.std.specs.List.Sorted.{IsStrictlySortedBy}
 use Rattle.cdc_base.specs.declared.key.Key.{Key}
 use Rattle.cdc_base.specs.Key.{key_order}
-use Rattle.cdc_model.specs.declared.start.NodeLog.{NodeLog}
 use Rattle.cdc_model.specs.Records.{CommittedBranch, Transaction}
 use Rattle.cdc_model.specs.Transaction.{settled_keys, has_key, transaction_of, transactions_of, numbers_from, IsSettledKey, AreTransactionsOf, logs_low_water_mark, all_branches, OrderIsExact}
 use Rattle.cdc_model.proofs.Members.{contains_none, contains_cases}

@@ -1,5 +1,5 @@
 -- The global order up to its first oversized transaction.
-use Rattle.std.proofs.Common.{◌≡◌, ℕ, zero, suc, ◌+◌, ◌^◌, ◌<◌, ◌≤◌, ltb, Bool, true, false, not, cond, ◌↔◌, List, [], ◌∷◌, map, filter, find, length, take, Option, Some, None, Contains, inl, inr, ap, sym, refl, subst, ◌∙◌, arith}
+use Rattle.std.proofs.Common.{◌≡◌, ℕ, zero, suc, ◌+◌, ◌^◌, Bool, true, false, not, cond, List, [], ◌∷◌, map, find, length, take, Option, Some, None, Contains, inl, inr, ap, sym, refl, subst, ◌∙◌, arith}
 use Rattle.std.proofs.lemmas.Bool.{ltb-true, ltb-false}
 use Rattle.std.specs.List.{before_first, position_or_len}
 use Rattle.std.specs.List.Sorted.{IsStrictlySortedBy}
@@ -8,7 +8,7 @@ use Rattle.cdc_base.specs.declared.key.Key.{Key}
 use Rattle.cdc_base.specs.Key.{key_order}
 use Rattle.cdc_model.specs.Records.{CommittedBranch, Transaction}
 use Rattle.cdc_model.specs.Print.{printed_length}
-use Rattle.cdc_model.specs.Transaction.{IsBelow, IsSettledKey, AreTransactionsOf, numbers_from, ordered_transactions, logs_low_water_mark, all_branches, is_oversized, SettledIsExact, SettledFit}
+use Rattle.cdc_model.specs.Transaction.{IsBelow, AreTransactionsOf, numbers_from, ordered_transactions, logs_low_water_mark, all_branches, is_oversized, SettledIsExact, SettledFit}
 use Rattle.cdc_model.proofs.Members.{contains_first, contains_later, contains_none, contains_cases}
 use Rattle.cdc_model.proofs.KeyList.{IsBelowAll, not_below_itself, not_both_below, below_member}
 use Rattle.cdc_model.proofs.Order.{keys_in, order_is_exact}

@@ -1,5 +1,5 @@
 -- The settled keys of some branches: in order, and exactly those.
-use Rattle.std.proofs.Common.{◌≡◌, ℕ, Bool, true, false, ◌⊎◌, ◌↔◌, inl, inr, IsTrue, if◌then◌else◌, List, [], ◌∷◌, map, fold, Contains, ap, sym, refl, subst, ◌∙◌}
+use Rattle.std.proofs.Common.{◌≡◌, ℕ, Bool, true, false, ◌⊎◌, ◌↔◌, inl, inr, IsTrue, if◌then◌else◌, List, [], ◌∷◌, map, fold, Contains, ap, refl, subst, ◌∙◌}
 use Rattle.std.specs.List.Sorted.{IsStrictlySortedBy}
 use Rattle.cdc_base.specs.declared.key.Key.{Key}
 use Rattle.cdc_base.specs.Key.{key_order}
