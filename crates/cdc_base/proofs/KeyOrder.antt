@@ -1,11 +1,16 @@
--- Keys that tie are equal in all their parts.
-use Rattle.std.proofs.Common.{◌≡◌}
+-- The order of keys is total, and keys that tie are equal in all their parts.
+use Rattle.std.proofs.Common.{◌≡◌, rules}
+use Rattle.std.specs.Cmp.{IsTotalOrder}
+use Rattle.std.specs.Cmp.Rules.{comparing}
 use Rattle.std.specs.Ordering.{ordering_then, nat_cmp}
 use Rattle.std.specs.declared.cmp.Ordering.{Ordering}
 use Rattle.std.specs.declared.cmp.Ordering.TheVariants.{Less, Equal, Greater}
 use Rattle.std.proofs.lemmas.Map.Lookups.{exact_unsigned, exact_bytes}
 use Rattle.cdc_base.specs.declared.key.Key.TheVariants.{Shared, Plain}
-use Rattle.cdc_base.specs.Key.{SameKey}
+use Rattle.cdc_base.specs.Key.{key_order, SameKey}
+
+pub key_order_total : IsTotalOrder key_order
+key_order_total = search (comparing, rules) depth 9
 
 -- where two orders one after the other tie, each ties
 both_tie : (first second : Ordering) → ordering_then first second ≡ Equal → (first ≡ Equal) × (second ≡ Equal)

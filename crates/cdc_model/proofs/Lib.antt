@@ -1,3 +1,14 @@
 mod KeptKeys
 mod Removal
 mod Worked
+mod Members
+mod OpenBranches
+mod Marks
+mod SoundFront
+mod LogPrefix
+mod KeyList
+mod SettledKeys
+mod Order
+mod OrderCut
+mod PrintLength
+mod Files

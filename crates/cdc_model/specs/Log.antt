@@ -18,3 +18,13 @@ IsLogPrefix (file ∷ next ∷ files) (other ∷ others) = (file ≡ other) × I
 -- the logs of all nodes continue older ones, node by node
 abbrev pub AreLogPrefixes : List (List (List ℕ)) → List (List (List ℕ)) → Type 0
 AreLogPrefixes olds news = AllZip IsLogPrefix olds news
+
+-- law: each log continues itself, and what continues a continuation continues the first
+abbrev pub LogPrefixIsAnOrder : Type 0
+LogPrefixIsAnOrder = ((log : List (List ℕ)) → IsLogPrefix log log)
+    × ((first second third : List (List ℕ)) → IsLogPrefix first second → IsLogPrefix second third → IsLogPrefix first third)
+
+-- law: a log whose last file has grown, and that has further files behind it, continues the old one
+abbrev pub GrownLogContinues : Type 0
+GrownLogContinues = (files : List (List ℕ)) (last more : List ℕ) (further : List (List ℕ))
+    → IsLogPrefix (files ++ last ∷ []) (files ++ (last ++ more) ∷ further)

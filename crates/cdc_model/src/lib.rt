@@ -10,6 +10,7 @@ mod branch;
 mod committed;
 mod entry;
 mod fault;
+mod laws;
 mod layout;
 mod open_branches;
 mod order;
@@ -24,6 +25,11 @@ pub use branch::{Branch, BranchList};
 pub use committed::add_node_branches;
 pub use entry::{Entry, EntryKind, EntryList};
 pub use fault::SortFault;
+pub use laws::{
+    files_are_whole, grown_log_continues, log_prefix_is_an_order, mark_is_greatest, mark_is_least,
+    node_mark_is_least, numbers_count, one_more_is_one_step, open_as_newest_says, order_is_exact,
+    settled_fit, settled_is_exact, sound_is_longest,
+};
 pub use layout::Layout;
 pub use order::{all_branches, first_key, ordered_transactions};
 pub use rows::{RowList, share_rows};
