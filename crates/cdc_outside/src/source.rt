@@ -3,9 +3,10 @@
 ghost use Rattle.std.specs.Prelude.{◌≡◌, ℕ, ◌≤◌, ◌^◌, Bool, IsTrue, List, Option, length, map, sum, IfOk};
 ghost use Rattle.cdc_base.specs.declared.place.Place.{Place};
 ghost use Rattle.cdc_outside.specs.Count.{RisesOnErr};
-ghost use Rattle.cdc_outside.specs.Source.{file_of, size_of, lowered, Reads};
+ghost use Rattle.cdc_outside.specs.Source.{earlier_place, file_of, lowered, size_of, Reads};
 
 use crate::failed::Failed;
+use cdc_base::Place;
 
 /// A list of files, counted from 1, whose bytes no call changes.
 ///
@@ -63,4 +64,26 @@ pub trait Source: Drop {
     ghost limit: { (source : Self) → sum (sizes source) ≤ 2 ^ 54 };
 
     ghost sizes_are_lengths: { (source : Self) → IsTrue tells → sizes source ≡ map length (held source) };
+}
+
+/// The least place asked for, with one more: what a source keeps for `lowest`.
+pub fn lowest_place(lowest: Option<Place>, file: u32, at: u64) -> Option<Place>
+    ensures { result ≡ lowered lowest file at }
+{
+    let place = Place { file, at };
+    match lowest {
+        Some(lowest) => Some(earlier(place, lowest)),
+        None => Some(place),
+    }
+}
+
+/// The first of two places; the second where they are equal.
+fn earlier(place: Place, other: Place) -> Place
+    ensures { result ≡ earlier_place place other }
+{
+    if place.file < other.file || (place.file == other.file && place.at < other.at) {
+        place
+    } else {
+        other
+    }
 }
