@@ -1,9 +1,10 @@
 -- The canonical texts of XA statements.
-use Rattle.std.specs.Prelude.{ℕ, List, [], ◌++◌, codes, decimal}
-use Rattle.hex.specs.Hex.{encode_lower}
+use Rattle.std.specs.Prelude.{◌≡◌, ℕ, ◌^◌, ◌<◌, ◌≤◌, List, [], ◌++◌, length, codes, decimal}
+use Rattle.hex.specs.Hex.{IsBytes, encode_lower}
 use Rattle.cdc_base.specs.declared.xid.Xid.{Xid}
 use Rattle.cdc_query.specs.declared.verb.Verb.{Verb}
 use Rattle.cdc_query.specs.declared.verb.Verb.TheVariants.{Begin, Commit, Rollback, Savepoint, XaStart, XaEnd, XaCommit, XaRollback, XaOther, Other}
+use Rattle.cdc_query.specs.Words.{verb_of}
 
 -- the name of a branch: X'gtrid',X'bqual',format
 abbrev pub xid_text : Xid → List ℕ
@@ -35,3 +36,31 @@ IsXa Rollback = ⊥
 IsXa Savepoint = ⊥
 IsXa XaOther = ⊥
 IsXa Other = ⊥
+
+-- at most 64 bytes
+pub record IsId (id : List ℕ) : Type 0 where
+  pub short : length id ≤ 64
+  pub bytes : IsBytes id
+
+-- the name of a branch, as every `Xid` is
+pub record IsXid (xid : Xid) : Type 0 where
+  pub gtrid : IsId xid.gtrid
+  pub bqual : IsId xid.bqual
+  pub format : xid.format < 2 ^ 32
+
+-- an XA verb whose branch has such a name
+abbrev pub HasXid : Verb → Type 0
+HasXid (XaStart xid) = IsXid xid
+HasXid (XaEnd xid) = IsXid xid
+HasXid (XaCommit xid) = IsXid xid
+HasXid (XaRollback xid) = IsXid xid
+HasXid Begin = ⊥
+HasXid Commit = ⊥
+HasXid Rollback = ⊥
+HasXid Savepoint = ⊥
+HasXid XaOther = ⊥
+HasXid Other = ⊥
+
+-- what is written is read again
+abbrev pub ReadsBack : Type 0
+ReadsBack = (verb : Verb) → HasXid verb → verb_of (canonical_text verb) ≡ verb

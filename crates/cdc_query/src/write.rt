@@ -2,7 +2,7 @@
 
 ghost use Rattle.std.specs.Prelude.{◌≡◌, ◌+◌, ◌*◌, ◌≤◌, ◌++◌, length, take, decimal, OnOk, OnErr};
 ghost use Rattle.hex.specs.Hex.{encode_lower};
-ghost use Rattle.cdc_query.specs.Text.{IsXa, canonical_text, xid_text};
+ghost use Rattle.cdc_query.specs.Text.{IsXa, ReadsBack, canonical_text, xid_text};
 
 use crate::verb::Verb;
 use cdc_base::{Buffer, Gtrid, Memory, Xid};
@@ -78,3 +78,8 @@ pub fn write_xa(verb: &Verb, into: &mut Buffer) -> Result<(), Memory>
     };
     into.push(&text[..end])
 }
+
+/// The canonical text of each XA statement is read as that statement.
+pub fn canonical_text_is_read()
+    ensures { ReadsBack }
+{}
