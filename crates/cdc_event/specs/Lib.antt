@@ -1,3 +1,4 @@
 pub mod Number
 pub mod Event
 pub mod Table
+pub mod Length
