@@ -26,6 +26,11 @@ all_insert P xs zero x all one = (one, all)
 all_insert P [] (suc i) x all one = (one, all)
 all_insert P (y ∷ ys) (suc i) x all one = (all.0, all_insert P ys i x all.1 one)
 
+pub all_at : {X : Type 0} (P : X → Type 0) (xs : List X) (k : ℕ) (d : X) → AllByRecursion P xs → k < length xs → P (get_or xs k d)
+all_at P [] k d all lt = absurd (omega arith)
+all_at P (y ∷ ys) zero d all lt = all.0
+all_at P (y ∷ ys) (suc k) d all lt = all_at P ys k d all.1 (omega arith)
+
 module _ {X K : Type 0} (key : X → K) where
   all_keys_insert : (P : K → Type 0) (xs : List X) (i : ℕ) (x : X) → AllByRecursion P (map key xs) → P (key x) → AllByRecursion P (map key (insert xs i x))
   all_keys_insert P xs zero x all one = (one, all)

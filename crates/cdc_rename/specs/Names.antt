@@ -1,5 +1,5 @@
 -- Renaming rules as a list without two rules for one table.
-use Rattle.std.specs.Prelude.{◌≡◌, ℕ, ◌<◌, ◌≤◌, List, ◌∷◌, length, map, slice_index_or, if◌then◌else◌, Some}
+use Rattle.std.specs.Prelude.{◌≡◌, ℕ, ◌+◌, ◌<◌, ◌≤◌, List, ◌∷◌, length, map, slice_index_or, if◌then◌else◌, Some}
 use Rattle.std.specs.List.{AllByRecursion}
 use Rattle.std.specs.List.Sorted.{IsPermutation, IsStrictlySortedBy}
 use Rattle.std.specs.Ordering.{nat_cmp, on, then_cmp}
@@ -9,6 +9,7 @@ use Rattle.std.specs.declared.cmp.Ordering.TheVariants.{Less, Equal, Greater}
 use Rattle.cdc_base.specs.declared.rename.Rename.{Rename}
 use Rattle.cdc_event.specs.declared.body.Body.{Body}
 use Rattle.cdc_event.specs.declared.body.Body.TheVariants.{TableMap}
+use Rattle.cdc_event.specs.Event.{body_bytes, FitsBody, has_kind}
 use Rattle.cdc_event.specs.Table.{is_rule_for, rule_for}
 
 -- a name has 1 to 64 bytes
@@ -60,3 +61,9 @@ pub record Adds (old new : List Rename) (rule : Rename) : Type 0 where
 abbrev pub IsTableMap : Body → Type 0
 IsTableMap (TableMap table flags db name rest) = Unit {0}
 IsTableMap body = ⊥
+
+-- what renaming keeps of a row's body: it fits its layout, it stands under the same types, and it grows by at most 128 bytes
+pub record KeepsRow (before after : Body) : Type 0 where
+  pub fits : FitsBody before → FitsBody after
+  pub kind : (kind : ℕ) → has_kind after kind ≡ has_kind before kind
+  pub size : length (body_bytes after) ≤ length (body_bytes before) + 128

@@ -1,6 +1,6 @@
 //! The rules, at most one for each table.
 
-ghost use Rattle.std.specs.Prelude.{◌≡◌, ◌↔◌, [], IsSome, OnOk, OnErr, IfOk, IfErr};
+ghost use Rattle.std.specs.Prelude.{◌≡◌, ◌↔◌, [], IsSome, IfSome, OnOk, OnErr, IfOk, IfErr};
 ghost use Rattle.std.specs.Option.{option_copied};
 ghost use Rattle.cdc_event.specs.Table.{rule_for};
 ghost use Rattle.cdc_rename.specs.Names.{IsRule, Adds, IsRuleAt, IsGapFor, table_of, table_order};
@@ -81,7 +81,8 @@ impl Names {
 
     /// The rule for a table; none exactly where there is none. Names match byte for byte.
     pub fn find(&self, db: &[u8], table: &[u8]) -> Option<&Rename>
-        ensures { option_copied result ≡ rule_for db.now table.now self.now }
+        ensures names { IfSome result (λ rule. IsRule rule.now) }
+        ensures rule { option_copied result ≡ rule_for db.now table.now self.now }
     {
         match self.search(db, table) {
             Ok(at) => Some(&self.rules[at]),
