@@ -8,7 +8,7 @@ mod SoundFront
 mod LogPrefix
 mod KeyList
 mod SettledKeys
-mod Order
+mod GlobalOrder
 mod OrderCut
 mod PrintLength
 mod Files

@@ -11,7 +11,7 @@ use Rattle.cdc_model.specs.Print.{printed_length}
 use Rattle.cdc_model.specs.Transaction.{IsBelow, AreTransactionsOf, numbers_from, ordered_transactions, logs_low_water_mark, all_branches, is_oversized, SettledIsExact, SettledFit}
 use Rattle.cdc_model.proofs.Members.{contains_first, contains_later, contains_none, contains_cases}
 use Rattle.cdc_model.proofs.KeyList.{IsBelowAll, not_below_itself, not_both_below, below_member}
-use Rattle.cdc_model.proofs.Order.{keys_in, order_is_exact}
+use Rattle.cdc_model.proofs.GlobalOrder.{keys_in, order_is_exact}
 
 -- ---- a list before its first element that passes a test
 
