@@ -9,4 +9,5 @@ mod SettledKeys
 mod Order
 mod OrderCut
 mod PrintLength
+mod ClosedFiles
 mod Files
