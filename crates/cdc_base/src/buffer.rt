@@ -1,6 +1,6 @@
 //! Bytes that grow.
 
-ghost use Rattle.std.specs.Prelude.{◌≡◌, [], ◌++◌, length, IfOk, OnOk, OnErr};
+ghost use Rattle.std.specs.Prelude.{◌≡◌, ◌≤◌, [], ◌++◌, length, take, IfOk, OnOk, OnErr};
 
 use crate::blob::Blob;
 use crate::memory::Memory;
@@ -62,6 +62,22 @@ impl Buffer {
     {
         self.bytes.extend_from_slice(bytes)?;
         Ok(())
+    }
+
+    /// Makes room for `more` bytes, so that pushes of that many grow no more. The bytes stay as they are.
+    pub fn reserve(&mut self, more: usize) -> Result<(), Memory>
+        ensures { self.new ≡ self.old }
+    {
+        self.bytes.reserve(more)?;
+        Ok(())
+    }
+
+    /// Drops all bytes from `to` on; the room stays.
+    pub fn truncate(&mut self, to: usize)
+        requires { to ≤ length self.old }
+        ensures { self.new ≡ take to self.old }
+    {
+        self.bytes.truncate(to);
     }
 
     /// The bytes, to be shared. On `Memory` the buffer is spent.

@@ -1,6 +1,6 @@
 //! A global transaction id, also used for a branch qualifier: 0 to 64 bytes, kept in place.
 
-ghost use Rattle.std.specs.Prelude.{◌≡◌, ◌<◌, ◌≤◌, ◌++◌, ◌↔◌, IsNone, IfSome, length, nat_eq, drop};
+ghost use Rattle.std.specs.Prelude.{◌≡◌, [], ◌<◌, ◌≤◌, ◌++◌, ◌↔◌, IsNone, IfSome, length, nat_eq, drop};
 ghost use Rattle.std.specs.Cmp.{partial_equiv_from_equiv};
 ghost use Rattle.std.specs.Cmp.Lexicographic.{pointwise};
 ghost use Rattle.std.proofs.lemmas.Cmp.{nat_list_eq_equiv};
@@ -34,6 +34,16 @@ impl Model for Gtrid {
 }
 
 impl Gtrid {
+    /// The id of no byte.
+    pub fn empty() -> Gtrid
+        ensures { result ≡ [] }
+    {
+        Gtrid {
+            bytes: [0; GTRID_MAX],
+            len: 0,
+        }
+    }
+
     /// The id's bytes.
     pub fn bytes(&self) -> &[u8]
         ensures value { result.now ≡ self.now }

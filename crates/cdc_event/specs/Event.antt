@@ -34,6 +34,19 @@ body_bytes (XaPrepare one_phase xid) =
 body_bytes (Timestamp class value) = class ∷ low_first 8 value
 body_bytes (Skipped bytes) = bytes
 
+-- how many bytes a body has
+abbrev pub body_length : Body → ℕ
+body_length (Format text created lengths checksum tail) = 12 + (length text + length lengths)
+body_length (Query thread seconds error status db text) = 14 + (length status + (length db + length text))
+body_length (Rotate position name) = 8 + length name
+body_length (XidEvent number) = 8
+body_length (RowsQuery size text) = 1 + length text
+body_length (TableMap table flags db name rest) = 12 + (length db + (length name + length rest))
+body_length (Rows bytes) = length bytes
+body_length (XaPrepare one_phase xid) = 13 + (length xid.gtrid + length xid.bqual)
+body_length (Timestamp class value) = 9
+body_length (Skipped bytes) = length bytes
+
 -- the bytes of an event
 abbrev pub event_bytes : Event → List ℕ
 event_bytes event = header_bytes event.header ++ body_bytes event.body

@@ -1,3 +1,5 @@
 pub mod Number
 pub mod Event
 pub mod Table
+pub mod Length
+pub mod Reading

@@ -8,8 +8,15 @@ mod body;
 mod event;
 mod fault;
 mod header;
+pub mod kind;
+mod number;
+mod reading;
+mod sharing;
+mod writing;
 
 pub use body::Body;
 pub use event::Event;
 pub use fault::{EventFault, ReadError};
-pub use header::{HEADER_LENGTH, Header};
+pub use header::{HEADER_LENGTH, Header, LENGTH_MAX, check_length, read_header};
+pub use reading::read_body;
+pub use writing::write_event;

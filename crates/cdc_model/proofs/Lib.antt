@@ -1,3 +1,5 @@
+mod KeptKeys
+mod Removal
 mod Worked
 mod Members
 mod OpenBranches

@@ -1,5 +1,5 @@
 -- Which entries of a log are sound, and the fault that ends them.
-use Rattle.std.specs.Prelude.{◌≡◌, ℕ, nat_le, List, [], ◌∷◌, ◌++◌, if◌then◌else◌, is_none, reverse, Option, Some, None}
+use Rattle.std.specs.Prelude.{◌≡◌, ◌+◌, ◌<◌, ◌^◌, ℕ, length, nat_le, List, [], ◌∷◌, ◌++◌, if◌then◌else◌, is_none, reverse, Option, Some, None}
 use Rattle.cdc_base.specs.declared.place.Place.{Place}
 use Rattle.cdc_base.specs.declared.xid.Xid.{Xid}
 use Rattle.cdc_model.specs.declared.entry.EntryKind.{EntryKind}
@@ -88,3 +88,7 @@ pub record IsLongestSoundFront (start : Start) (entries sound : List LogEntry) :
 -- law: the sound entries are the longest sound front
 abbrev pub SoundIsLongest : Type 0
 SoundIsLongest = (start : Start) (entries : List LogEntry) → IsLongestSoundFront start entries (sound_entries start entries)
+
+-- the numbers of a log's entries stay below 2^63
+abbrev pub IsCounted : NodeLog → Type 0
+IsCounted log = log.start.entry + length log.entries < 2 ^ 63

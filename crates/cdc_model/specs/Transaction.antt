@@ -1,6 +1,6 @@
 -- The global order: which transactions are settled, in which order, and under which numbers.
 use Rattle.std.specs.Prelude.{◌≡◌, ℕ, zero, suc, ◌+◌, ◌^◌, ◌<◌, ◌≤◌, ◌↔◌, nat_lt, Bool, IsTrue, List, [], ◌∷◌, map, filter, length, if◌then◌else◌, slice_get, Option, Some, None, Contains}
-use Rattle.std.specs.List.{flat_map, enumerate_from, fold, find, before_first}
+use Rattle.std.specs.List.{flat_map, enumerate_from, fold, find, before_first, sum_by}
 use Rattle.std.specs.List.Sorted.{IsStrictlySortedBy}
 use Rattle.std.specs.Ordering.{is_eq}
 use Rattle.std.specs.declared.cmp.Ordering.{Ordering}
@@ -22,6 +22,10 @@ node_branches last node = committed_branches last node.1.start node.0 (sound_his
 
 abbrev pub all_branches : Key → List NodeLog → List CommittedBranch
 all_branches last logs = flat_map (node_branches last) (enumerate_from 1 logs)
+
+-- how many entries logs have
+abbrev pub entries_in : List NodeLog → ℕ
+entries_in logs = sum_by (λ (log : NodeLog). length log.entries) logs
 
 -- the low-water mark of all logs
 abbrev pub logs_low_water_mark : List NodeLog → ℕ

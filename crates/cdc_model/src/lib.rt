@@ -7,15 +7,22 @@
 #![tactic(auto)]
 
 mod branch;
+mod committed;
 mod entry;
 mod fault;
 mod laws;
 mod layout;
+mod open_branches;
+mod order;
 mod rows;
+mod settled;
+mod soundness;
 mod start;
 mod transaction;
+mod watermark;
 
 pub use branch::{Branch, BranchList};
+pub use committed::add_node_branches;
 pub use entry::{Entry, EntryKind, EntryList};
 pub use fault::SortFault;
 pub use laws::{
@@ -24,6 +31,10 @@ pub use laws::{
     settled_fit, settled_is_exact, sound_is_longest,
 };
 pub use layout::Layout;
-pub use rows::RowList;
+pub use order::{all_branches, first_key, ordered_transactions};
+pub use rows::{RowList, share_rows};
+pub use settled::{KeyList, is_settled, settled_keys};
+pub use soundness::{entry_fault, reached, sound_count};
 pub use start::{NodeLog, OpenList, Opened, StartingPoint};
 pub use transaction::{Txn, TxnList};
+pub use watermark::{low_water_mark, node_low_water_mark};

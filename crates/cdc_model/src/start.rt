@@ -1,8 +1,13 @@
 //! Where a node's reading begins, and what it has reached.
 
-use crate::entry::EntryList;
-use crate::rows::RowList;
-use cdc_base::{Items, Xid};
+ghost use Rattle.std.specs.Prelude.{◌≡◌, ◌+◌, ◌<◌, ◌^◌, IfOk, OnOk};
+ghost use Rattle.cdc_model.specs.Start.{beginning, next};
+
+use crate::entry::{Entry, EntryKind, EntryList};
+use crate::open_branches::{enter, without};
+use crate::rows::{RowList, share_rows};
+use cdc_base::{Items, Memory, Xid};
+use std::alloc::Global;
 use std::marker::Model;
 
 /// An open branch: prepared, and not ended. The floor is the high-water mark before its prepare; `entry` is
@@ -48,6 +53,85 @@ impl Model for StartingPoint {
     ghost view = { start_seen };
 
     ghost invariant = { IsKeptStart };
+}
+
+impl Opened {
+    /// An equal open branch over the same rows.
+    pub fn share(&self, alloc: Global) -> Result<Opened, Memory>
+        ensures { IfOk result (λ shared. shared ≡ self.now) }
+    {
+        Ok(Opened {
+            xid: self.xid,
+            floor: self.floor,
+            entry: self.entry,
+            rows: share_rows(alloc, self.rows.as_slice())?,
+        })
+    }
+}
+
+/// Equal open branches over the same rows.
+fn share_opened(alloc: Global, opened: &[Opened]) -> Result<OpenList, Memory>
+    ensures { IfOk result (λ shared. shared ≡ opened.now) }
+{
+    let mut shared = OpenList::new(alloc);
+    for branch in opened {
+        shared.push(branch.share(alloc)?)?;
+    }
+    Ok(shared)
+}
+
+impl StartingPoint {
+    /// The start of a log: entry 1 comes next, no timestamp yet, no open branch. Takes no memory.
+    pub fn beginning(alloc: Global) -> StartingPoint
+        ensures { result ≡ beginning }
+    {
+        StartingPoint {
+            entry: 1,
+            mark: 0,
+            opened: OpenList::new(alloc),
+        }
+    }
+
+    /// An equal starting point over the same rows.
+    pub fn share(&self, alloc: Global) -> Result<StartingPoint, Memory>
+        ensures { IfOk result (λ shared. shared ≡ self.now) }
+    {
+        Ok(StartingPoint {
+            entry: self.entry,
+            mark: self.mark,
+            opened: share_opened(alloc, self.opened.as_slice())?,
+        })
+    }
+
+    /// Goes one entry on. On `Memory` the starting point is spent.
+    pub fn advance(&mut self, alloc: Global, entry: &Entry) -> Result<(), Memory>
+        requires { self.old.entry + 1 < 2 ^ 64 }
+        ensures { OnOk result (self.new ≡ next entry.now.kind self.old) }
+    {
+        let floor = self.mark;
+        match &entry.kind {
+            EntryKind::Prepare { xid, rows } => {
+                let branch = Opened {
+                    xid: *xid,
+                    floor,
+                    entry: self.entry,
+                    rows: share_rows(alloc, rows.as_slice())?,
+                };
+                without(&mut self.opened, xid);
+                enter(&mut self.opened, branch)?;
+            }
+            EntryKind::OnePhase { timestamp, .. } => self.mark = floor.max(*timestamp),
+            EntryKind::Commit { xid, timestamp, .. } => {
+                self.mark = floor.max(*timestamp);
+                without(&mut self.opened, xid);
+            }
+            EntryKind::Rollback { xid } => without(&mut self.opened, xid),
+            EntryKind::Plain { .. } => {}
+            EntryKind::Beat { timestamp } => self.mark = floor.max(*timestamp),
+        }
+        self.entry += 1;
+        Ok(())
+    }
 }
 
 /// A node's log as read: where the reading begins, and the entries from there on, the oldest first.

@@ -1,0 +1,7 @@
+mod Numbers
+mod Fields
+mod HeaderBytes
+mod Sizes
+mod Kept
+mod Steps
+mod Query

@@ -1,0 +1,173 @@
+//! A source over opened files.
+
+ghost use Rattle.std.specs.Prelude.{◌≡◌, ◌≤◌, ◌<◌, ◌*◌, ◌/◌, ◌^◌, false, [], ◌∷◌, length, None, IfOk, IfSome};
+ghost use Rattle.cdc_files.specs.Share.{shares, shares_fit};
+
+use crate::counted::counted;
+use cdc_base::{Memory, Place};
+use cdc_outside::{Failed, Source, lowest_place};
+use std::alloc::Global;
+use std::io::{Read, Seek, SeekFrom};
+
+/// The most bytes that all files of a source have together.
+const MOST_BYTES: u64 = 1 << 54;
+
+/// Opened files, counted from 1. Each may have at most its share of 2^54 bytes: a longer one fails when its
+/// length is asked for. Where one of them couldn't be opened, each call fails.
+#[derive(Drop)]
+pub struct FileSource<F> {
+    files: Vec<Option<F>>,
+    all_open: bool,
+    /// The file that was read last and the place where it stands, so that reading on needs no seek.
+    stands: Option<Place>,
+    lowest: Option<Place>,
+    faults: u64,
+    ghost few: { length files.items < 2 ^ 32 },
+}
+
+impl<F: Read + Seek + Drop> FileSource<F> {
+    /// These files, with none in the place of one that couldn't be opened.
+    pub fn new(files: Vec<Option<F>>) -> FileSource<F>
+        requires { length files.items < 2 ^ 32 }
+        ensures sizes { ⟦<FileSource<F> as Source>⟧.sizes result ≡ shares (length files.items) }
+        ensures lowest { ⟦<FileSource<F> as Source>⟧.lowest result ≡ None }
+        ensures faults { ⟦<FileSource<F> as Source>⟧.faults result ≡ 0 }
+    {
+        let all_open = files.iter().all(|file| file.is_some());
+        FileSource {
+            files,
+            all_open,
+            stands: None,
+            lowest: None,
+            faults: 0,
+        }
+    }
+
+    /// One file, or none where it couldn't be opened.
+    pub fn single(alloc: Global, file: Option<F>) -> Result<FileSource<F>, Memory>
+        ensures sizes { IfOk result (λ source. ⟦<FileSource<F> as Source>⟧.sizes source ≡ 2 ^ 54 ∷ []) }
+        ensures lowest { IfOk result (λ source. ⟦<FileSource<F> as Source>⟧.lowest source ≡ None) }
+        ensures faults { IfOk result (λ source. ⟦<FileSource<F> as Source>⟧.faults source ≡ 0) }
+    {
+        let mut files = Vec::new(alloc);
+        files.push(file)?;
+        Ok(FileSource::new(files))
+    }
+
+    /// How many calls failed.
+    pub fn faults(&self) -> u64
+        ensures { result ≡ ⟦<FileSource<F> as Source>⟧.faults self.now }
+    {
+        self.faults
+    }
+
+    /// How many files there are, where all could be opened.
+    fn number(&self) -> Option<u32>
+        ensures { IfSome result (λ number. number ≡ length self.now.files.items) }
+    {
+        if self.all_open {
+            Some(self.files.len() as u32)
+        } else {
+            None
+        }
+    }
+
+    /// How many bytes a file has, where that is within its share.
+    fn measure(&mut self, file: u32) -> Option<u64>
+        requires first { 1 ≤ file }
+        requires last { file ≤ length self.old.files.items }
+        ensures within { IfSome result (λ bytes. bytes ≤ 2 ^ 54 / length self.old.files.items) }
+        ensures files { length self.new.files.items ≡ length self.old.files.items }
+        ensures lowest { self.new.lowest ≡ self.old.lowest }
+        ensures faults { self.new.faults ≡ self.old.faults }
+    {
+        let share = MOST_BYTES / self.files.len() as u64;
+        self.stands = None;
+        let bytes = end_of(&mut self.files[file as usize - 1])?;
+        if self.all_open && bytes <= share {
+            Some(bytes)
+        } else {
+            None
+        }
+    }
+
+    /// Reads from a place on, and keeps where the file stands then.
+    fn read(&mut self, place: Place, into: &mut [u8]) -> Option<usize>
+        requires first { 1 ≤ place.file }
+        requires last { place.file ≤ length self.old.files.items }
+        ensures within { IfSome result (λ read. read ≤ length into.old) }
+        ensures files { length self.new.files.items ≡ length self.old.files.items }
+        ensures lowest { self.new.lowest ≡ self.old.lowest }
+        ensures faults { self.new.faults ≡ self.old.faults }
+    {
+        let goes_on = self.stands == Some(place);
+        self.stands = None;
+        if !self.all_open {
+            return None;
+        }
+        let read = read_from(
+            &mut self.files[place.file as usize - 1],
+            place.at,
+            goes_on,
+            into,
+        )?;
+        self.stands = Some(Place {
+            file: place.file,
+            at: place.at.saturating_add(read as u64),
+        });
+        Some(read)
+    }
+}
+
+/// How many bytes a file has.
+fn end_of<F: Seek>(file: &mut Option<F>) -> Option<u64> {
+    let file = file.as_mut()?;
+    file.seek(SeekFrom::End(0)).ok()
+}
+
+/// Reads from the byte `at` on, where the file stands already or after a seek.
+fn read_from<F: Read + Seek>(
+    file: &mut Option<F>,
+    at: u64,
+    goes_on: bool,
+    into: &mut [u8],
+) -> Option<usize>
+    ensures { IfSome result (λ read. read ≤ length into.old) }
+{
+    let file = file.as_mut()?;
+    if !goes_on {
+        let _at = file.seek(SeekFrom::Start(at)).ok()?;
+    }
+    file.read(into).ok()
+}
+
+impl<F: Read + Seek + Drop> Source for FileSource<F> {
+    ghost tells = { false };
+
+    ghost held = { λ _. [] };
+
+    ghost sizes = { λ source. shares (length source.files.items) };
+
+    ghost lowest = { λ source. source.lowest };
+
+    ghost faults = { λ source. source.faults };
+
+    ghost limit = { λ source. shares_fit (length source.files.items) };
+
+    ghost sizes_are_lengths = { λ source told. Prim.cc };
+
+    fn files(&mut self) -> Result<u32, Failed> {
+        counted(self.number(), &mut self.faults)
+    }
+
+    fn length(&mut self, file: u32) -> Result<u64, Failed> {
+        let bytes = self.measure(file);
+        counted(bytes, &mut self.faults)
+    }
+
+    fn read_at(&mut self, file: u32, at: u64, into: &mut [u8]) -> Result<usize, Failed> {
+        self.lowest = lowest_place(self.lowest, file, at);
+        let read = self.read(Place { file, at }, into);
+        counted(read, &mut self.faults)
+    }
+}

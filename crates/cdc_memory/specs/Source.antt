@@ -1,0 +1,25 @@
+-- Sources in memory.
+use Rattle.std.specs.Prelude.{ℕ, List, Option}
+use Rattle.cdc_base.specs.declared.place.Place.{Place}
+use Rattle.cdc_memory.specs.Calls.{Calls}
+use Rattle.cdc_memory.specs.declared.source.MemSource.{MemSource}
+use Rattle.cdc_memory.specs.declared.source.PureSource.{PureSource}
+
+-- the files that it holds
+abbrev pub files_of : MemSource → List (List ℕ)
+files_of source = source.files.files.items
+
+-- the least place that was asked for
+abbrev pub lowest_of : MemSource → Option Place
+lowest_of source = source.files.lowest
+
+-- its calls so far
+abbrev pub calls_of : MemSource → Calls
+calls_of source = source.calls
+
+-- the same of a source that never fails
+abbrev pub pure_files_of : PureSource → List (List ℕ)
+pure_files_of source = source.files.files.items
+
+abbrev pub pure_lowest_of : PureSource → Option Place
+pure_lowest_of source = source.files.lowest

@@ -1,0 +1,189 @@
+//! Sources in memory.
+
+ghost use Rattle.std.specs.Prelude.{◌≡◌, ◌≤◌, ◌<◌, ◌-◌, ◌^◌, IsTrue, false, true, refl, length, map, min, sum, None, IfOk, IsOk};
+ghost use Rattle.cdc_outside.specs.Count.{RisesOnErr};
+ghost use Rattle.cdc_outside.specs.Source.{file_of, size_of, lowered, Reads};
+ghost use Rattle.cdc_memory.specs.Calls.{at_first, Counts};
+
+use crate::calls::CallPlan;
+use crate::files::MemFiles;
+use cdc_base::{Blob, Memory, Place};
+use cdc_outside::{Failed, Source};
+use std::alloc::Global;
+
+/// Files in memory, whose listed calls fail.
+#[derive(Debug, Drop)]
+pub struct MemSource {
+    files: MemFiles,
+    calls: CallPlan,
+}
+
+impl MemSource {
+    ghost use Rattle.cdc_memory.specs.Source.{files_of, lowest_of, calls_of};
+
+    /// These files, their bytes shared. The k-th call (from 1, of any kind) fails for each k of `fails`, and no
+    /// other does.
+    pub fn new(alloc: Global, files: &[Blob], fails: &[u64]) -> Result<MemSource, Memory>
+        requires few { length files.now < 2 ^ 32 }
+        requires fit { sum (map length files.now) ≤ 2 ^ 54 }
+        ensures files { IfOk result (λ source. files_of source ≡ files.now) }
+        ensures lowest { IfOk result (λ source. lowest_of source ≡ None) }
+        ensures calls { IfOk result (λ source. calls_of source ≡ at_first fails.now) }
+    {
+        Ok(MemSource {
+            files: MemFiles::new(alloc, files)?,
+            calls: CallPlan::new(alloc, fails)?,
+        })
+    }
+
+    /// How many calls failed.
+    pub fn faults(&self) -> u64
+        ensures { result ≡ (calls_of self.now).faults }
+    {
+        self.calls.faults()
+    }
+
+    /// The least place that `read_at` was asked for.
+    pub fn lowest(&self) -> Option<Place>
+        ensures { result ≡ lowest_of self.now }
+    {
+        self.files.lowest()
+    }
+}
+
+impl Source for MemSource {
+    ghost use Rattle.cdc_memory.specs.Source.{files_of, lowest_of, calls_of};
+
+    ghost tells = { true };
+
+    ghost held = { files_of };
+
+    ghost sizes = { λ source. map length (files_of source) };
+
+    ghost lowest = { lowest_of };
+
+    ghost faults = { λ source. (calls_of source).faults };
+
+    ghost limit = { λ source. source.files.fit };
+
+    ghost sizes_are_lengths = { λ source told. refl };
+
+    fn files(&mut self) -> Result<u32, Failed>
+        ensures number { IfOk result (λ number. number ≡ length (files_of self.old)) }
+        ensures held { files_of self.new ≡ files_of self.old }
+        ensures lowest { lowest_of self.new ≡ lowest_of self.old }
+        ensures faults { RisesOnErr (calls_of self.old).faults (calls_of self.new).faults result }
+        ensures call { Counts false (calls_of self.old) (calls_of self.new) result }
+    {
+        self.calls.count(false)?;
+        Ok(self.files.number())
+    }
+
+    fn length(&mut self, file: u32) -> Result<u64, Failed>
+        requires first { 1 ≤ file }
+        requires last { file ≤ length (files_of self.old) }
+        ensures exact { IfOk result (λ bytes. bytes ≡ length (file_of (files_of self.old) file)) }
+        ensures held { files_of self.new ≡ files_of self.old }
+        ensures lowest { lowest_of self.new ≡ lowest_of self.old }
+        ensures faults { RisesOnErr (calls_of self.old).faults (calls_of self.new).faults result }
+        ensures call { Counts false (calls_of self.old) (calls_of self.new) result }
+    {
+        self.calls.count(false)?;
+        Ok(self.files.length(file))
+    }
+
+    fn read_at(&mut self, file: u32, at: u64, into: &mut [u8]) -> Result<usize, Failed>
+        requires first { 1 ≤ file }
+        requires last { file ≤ length (files_of self.old) }
+        ensures read { IfOk result (λ read. Reads (file_of (files_of self.old) file) at into.new read) }
+        ensures full { IfOk result (λ read. read ≡ min (length into.old) (length (file_of (files_of self.old) file) - at)) }
+        ensures held { files_of self.new ≡ files_of self.old }
+        ensures lowest { lowest_of self.new ≡ lowered (lowest_of self.old) file at }
+        ensures faults { RisesOnErr (calls_of self.old).faults (calls_of self.new).faults result }
+        ensures call { Counts false (calls_of self.old) (calls_of self.new) result }
+    {
+        self.files.ask(file, at);
+        self.calls.count(false)?;
+        Ok(self.files.read(file, at, into))
+    }
+}
+
+/// Files in memory, whose calls never fail.
+#[derive(Debug, Drop)]
+pub struct PureSource {
+    files: MemFiles,
+}
+
+impl PureSource {
+    ghost use Rattle.cdc_memory.specs.Source.{pure_files_of, pure_lowest_of};
+
+    /// These files, their bytes shared.
+    pub fn new(alloc: Global, files: &[Blob]) -> Result<PureSource, Memory>
+        requires few { length files.now < 2 ^ 32 }
+        requires fit { sum (map length files.now) ≤ 2 ^ 54 }
+        ensures files { IfOk result (λ source. pure_files_of source ≡ files.now) }
+        ensures lowest { IfOk result (λ source. pure_lowest_of source ≡ None) }
+    {
+        Ok(PureSource {
+            files: MemFiles::new(alloc, files)?,
+        })
+    }
+
+    /// The least place that `read_at` was asked for.
+    pub fn lowest(&self) -> Option<Place>
+        ensures { result ≡ pure_lowest_of self.now }
+    {
+        self.files.lowest()
+    }
+}
+
+impl Source for PureSource {
+    ghost use Rattle.cdc_memory.specs.Source.{pure_files_of, pure_lowest_of};
+
+    ghost tells = { true };
+
+    ghost held = { pure_files_of };
+
+    ghost sizes = { λ source. map length (pure_files_of source) };
+
+    ghost lowest = { pure_lowest_of };
+
+    ghost faults = { λ _. 0 };
+
+    ghost limit = { λ source. source.files.fit };
+
+    ghost sizes_are_lengths = { λ source told. refl };
+
+    fn files(&mut self) -> Result<u32, Failed>
+        ensures ok { IsOk result }
+        ensures number { IfOk result (λ number. number ≡ length (pure_files_of self.old)) }
+        ensures held { pure_files_of self.new ≡ pure_files_of self.old }
+        ensures lowest { pure_lowest_of self.new ≡ pure_lowest_of self.old }
+    {
+        Ok(self.files.number())
+    }
+
+    fn length(&mut self, file: u32) -> Result<u64, Failed>
+        requires first { 1 ≤ file }
+        requires last { file ≤ length (pure_files_of self.old) }
+        ensures ok { IsOk result }
+        ensures exact { IfOk result (λ bytes. bytes ≡ length (file_of (pure_files_of self.old) file)) }
+        ensures held { pure_files_of self.new ≡ pure_files_of self.old }
+        ensures lowest { pure_lowest_of self.new ≡ pure_lowest_of self.old }
+    {
+        Ok(self.files.length(file))
+    }
+
+    fn read_at(&mut self, file: u32, at: u64, into: &mut [u8]) -> Result<usize, Failed>
+        requires first { 1 ≤ file }
+        requires last { file ≤ length (pure_files_of self.old) }
+        ensures ok { IsOk result }
+        ensures read { IfOk result (λ read. Reads (file_of (pure_files_of self.old) file) at into.new read) }
+        ensures full { IfOk result (λ read. read ≡ min (length into.old) (length (file_of (pure_files_of self.old) file) - at)) }
+        ensures held { pure_files_of self.new ≡ pure_files_of self.old }
+        ensures lowest { pure_lowest_of self.new ≡ lowered (pure_lowest_of self.old) file at }
+    {
+        self.files.ask(file, at);
+        Ok(self.files.read(file, at, into))
+    }
+}

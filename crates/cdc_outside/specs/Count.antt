@@ -1,0 +1,11 @@
+-- Counts of faults, which stand still at the end of their type.
+use Rattle.std.specs.Prelude.{ℕ, ◌+◌, ◌-◌, ◌^◌, ◌≤◌, min, Result, OnErr}
+
+-- a count rose, or stands at its type's end
+abbrev pub Rose : ℕ → ℕ → Type 0
+Rose before now = min (before + 1) (2 ^ 64 - 1) ≤ now
+
+-- a count never falls, and it rose where the call failed
+pub record RisesOnErr {A E : Type 0} (before now : ℕ) (result : Result A E) : Type 0 where
+  pub later : before ≤ now
+  pub failed : OnErr result (Rose before now)
