@@ -11,4 +11,5 @@ mod SettledKeys
 mod GlobalOrder
 mod OrderCut
 mod PrintLength
+mod ClosedFiles
 mod Files

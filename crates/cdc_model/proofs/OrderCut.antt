@@ -142,6 +142,7 @@ cut_order test count mark branches txns all = record {
         ((all.exact key).1 record { settled = settled.settled; present = settled.present; below = tt }, settled.below),
   );
   whole = λ txn within. all.whole txn (contains_taken (position_or_len test txns) txns txn within);
+  dated = λ txn within. all.dated txn (contains_taken (position_or_len test txns) txns txn within);
   numbered = numbered_taken (position_or_len test txns) (count + 1) txns all.numbered;
 }
 
