@@ -1,1 +1,5 @@
+pub mod Answers
+pub mod Logs
+pub mod Small
 pub mod Thin
+pub mod Words

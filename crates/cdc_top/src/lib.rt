@@ -4,6 +4,10 @@
 //! service's promise; `cdc_prog` calls it over real files. A log is read in the thin form as yet (`specs/Thin.antt`).
 #![tactic(auto)]
 
-mod events;
-mod pairs;
+mod answer;
+mod logs;
 mod thin;
+mod words;
+
+pub use answer::Answer;
+pub use words::{FILES_MAX, is_print};

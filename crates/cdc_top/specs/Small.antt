@@ -1,0 +1,43 @@
+-- Logs whose prints are small: no rows, and ids of at most 64 bytes.
+use Rattle.std.specs.Prelude.{◌≡◌, ℕ, ◌≤◌, List, [], length}
+use Rattle.std.specs.List.{AllByRecursion}
+use Rattle.cdc_base.specs.declared.xid.Xid.{Xid}
+use Rattle.cdc_base.specs.declared.key.Key.{Key}
+use Rattle.cdc_base.specs.declared.key.Key.TheVariants.{Shared, Plain as PlainKey}
+use Rattle.cdc_model.specs.declared.entry.EntryKind.{EntryKind}
+use Rattle.cdc_model.specs.declared.entry.EntryKind.TheVariants.{Prepare, OnePhase, Commit, Rollback, Plain, Beat}
+use Rattle.cdc_model.specs.declared.start.NodeLog.{NodeLog}
+use Rattle.cdc_model.specs.Records.{LogEntry, CommittedBranch, OpenBranch, Transaction}
+
+abbrev pub IsShortKey : Key → Type 0
+IsShortKey (Shared timestamp gtrid) = length gtrid ≤ 64
+IsShortKey (PlainKey timestamp node entry) = Unit {0}
+
+-- an entry that brings no rows, under an id of at most 64 bytes
+abbrev pub IsSmallKind : EntryKind → Type 0
+IsSmallKind (Prepare xid rows) = rows ≡ []
+IsSmallKind (OnePhase xid rows timestamp seconds) = (rows ≡ []) × (length xid.gtrid ≤ 64)
+IsSmallKind (Commit xid timestamp seconds) = length xid.gtrid ≤ 64
+IsSmallKind (Rollback xid) = Unit {0}
+IsSmallKind (Plain rows seconds) = rows ≡ []
+IsSmallKind (Beat timestamp) = Unit {0}
+
+abbrev pub IsSmallEntry : LogEntry → Type 0
+IsSmallEntry entry = IsSmallKind entry.kind
+
+abbrev pub IsSmallOpen : OpenBranch → Type 0
+IsSmallOpen branch = branch.rows ≡ []
+
+pub record IsSmallBranch (branch : CommittedBranch) : Type 0 where
+  pub rows : branch.rows ≡ []
+  pub key : IsShortKey branch.key
+
+-- a transaction of branches without rows
+pub record IsSmallTransaction (txn : Transaction) : Type 0 where
+  pub branches : AllByRecursion (λ (branch : CommittedBranch). branch.rows ≡ []) txn.branches
+  pub key : IsShortKey txn.key
+
+-- a log of small entries, read from its beginning
+pub record IsSmallLog (log : NodeLog) : Type 0 where
+  pub opened : log.start.opened ≡ []
+  pub entries : AllByRecursion IsSmallEntry log.entries
