@@ -1,2 +1,4 @@
 mod Nodes
+mod OneFile
+mod OrderLength
 mod SmallLogs

@@ -1,5 +1,5 @@
 -- Logs whose prints are small: no rows, and ids of at most 64 bytes.
-use Rattle.std.specs.Prelude.{◌≡◌, ℕ, ◌≤◌, List, [], length}
+use Rattle.std.specs.Prelude.{◌≡◌, ℕ, ◌≤◌, List, [], ◌∷◌, ◌++◌, length}
 use Rattle.std.specs.List.{AllByRecursion}
 use Rattle.cdc_base.specs.declared.xid.Xid.{Xid}
 use Rattle.cdc_base.specs.declared.key.Key.{Key}
@@ -7,6 +7,8 @@ use Rattle.cdc_base.specs.declared.key.Key.TheVariants.{Shared, Plain as PlainKe
 use Rattle.cdc_model.specs.declared.entry.EntryKind.{EntryKind}
 use Rattle.cdc_model.specs.declared.entry.EntryKind.TheVariants.{Prepare, OnePhase, Commit, Rollback, Plain, Beat}
 use Rattle.cdc_model.specs.declared.start.NodeLog.{NodeLog}
+use Rattle.cdc_model.specs.Print.{printed_length}
+use Rattle.cdc_model.specs.Output.{file_head, prints_at}
 use Rattle.cdc_model.specs.Records.{LogEntry, CommittedBranch, OpenBranch, Transaction}
 
 abbrev pub IsShortKey : Key → Type 0
@@ -41,3 +43,12 @@ pub record IsSmallTransaction (txn : Transaction) : Type 0 where
 pub record IsSmallLog (log : NodeLog) : Type 0 where
   pub opened : log.start.opened ≡ []
   pub entries : AllByRecursion IsSmallEntry log.entries
+
+-- a print of at most 242 bytes
+abbrev pub IsShortPrint : Transaction → Type 0
+IsShortPrint txn = printed_length [] txn ≤ 242
+
+-- the file of transactions of which none is cut off
+abbrev pub shown_file : List Transaction → List ℕ
+shown_file [] = []
+shown_file (txn ∷ txns) = file_head ++ prints_at [] (length file_head) (txn ∷ txns)
