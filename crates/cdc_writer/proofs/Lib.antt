@@ -1,0 +1,5 @@
+mod Bodies
+mod Marks
+mod Colons
+mod Laid
+mod Rows
