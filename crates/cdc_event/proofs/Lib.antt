@@ -2,3 +2,14 @@ mod Numbers
 mod Fields
 mod HeaderBytes
 mod Sizes
+mod Kept
+mod Steps
+mod Query
+mod ShortBodies
+mod FormatBody
+mod TableMapBody
+mod PrepareBody
+mod Bodies
+mod Whole
+mod Faults
+mod Correspondence

@@ -1,5 +1,5 @@
 -- How long an event is, and what stands in it, where events end with a checksum.
-use Rattle.std.specs.Prelude.{◌≡◌, ◌<◌, ℕ, ◌+◌, ◌-◌, ◌^◌, ◌≤◌, ◌==◌, ◌&&◌, not, if◌then◌else◌, List, length, take}
+use Rattle.std.specs.Prelude.{◌≡◌, ◌<◌, ℕ, zero, suc, ◌+◌, ◌-◌, ◌^◌, ◌≤◌, ◌==◌, ◌&&◌, not, if◌then◌else◌, List, length, take}
 use Rattle.cdc_event.specs.declared.header.Header.{Header}
 use Rattle.cdc_event.specs.declared.fault.EventFault.{EventFault}
 use Rattle.cdc_event.specs.declared.fault.EventFault.TheVariants.{ShortLength, TooLong, BadBody, Compressed, BadFormat, Partial}
@@ -26,10 +26,20 @@ HasLengthFault checksum header Compressed = ⊥
 HasLengthFault checksum header BadFormat = ⊥
 HasLengthFault checksum header Partial = ⊥
 
+-- a header with so much less in its length
+abbrev pub shortened : ℕ → Header → Header
+shortened zero header = header
+shortened (suc less) header = record header { length = header.length - suc less }
+
+-- a list without its last items
+abbrev pub without_last : ℕ → List ℕ → List ℕ
+without_last zero bytes = bytes
+without_last (suc less) bytes = take (length bytes - suc less) bytes
+
 -- the header without the checksum's bytes in its length
 abbrev pub kept_header : ℕ → Header → Header
-kept_header checksum header = record header { length = header.length - tail_length checksum header.kind }
+kept_header checksum header = shortened (tail_length checksum header.kind) header
 
 -- the body without the checksum
 abbrev pub kept_bytes : ℕ → ℕ → List ℕ → List ℕ
-kept_bytes checksum kind body = take (length body - tail_length checksum kind) body
+kept_bytes checksum kind body = without_last (tail_length checksum kind) body

@@ -2,3 +2,5 @@ pub mod Number
 pub mod Event
 pub mod Table
 pub mod Length
+pub mod Reading
+pub mod Laws

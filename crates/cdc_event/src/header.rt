@@ -6,6 +6,7 @@ ghost use Rattle.cdc_event.specs.Length.{tail_length, least_length, HasGoodLengt
 ghost use Rattle.cdc_event.specs.declared.fault.EventFault.TheVariants.{ShortLength, TooLong};
 
 use crate::fault::EventFault;
+use crate::kind::FORMAT;
 use crate::number::{number_2, number_4};
 
 /// The bytes of a header.
@@ -30,8 +31,8 @@ pub struct Header {
 /// The most bytes that an event of a node's log has.
 pub const LENGTH_MAX: u32 = 1 << 27;
 
-/// The type of a format event, which has its checksum inside its body.
-pub(crate) const FORMAT: u8 = 15;
+/// The version of the binary log's format.
+pub(crate) const FORMAT_VERSION: u16 = 4;
 
 /// The bytes of a checksum.
 const CHECKSUM_LENGTH: u32 = 4;

@@ -7,12 +7,9 @@ ghost use Rattle.cdc_event.specs.declared.body.Body.TheVariants.{Format, Query, 
 
 use crate::body::Body;
 use crate::event::Event;
-use crate::header::{HEADER_LENGTH, Header};
+use crate::header::{FORMAT_VERSION, HEADER_LENGTH, Header};
 use crate::number::{bytes_2, bytes_4, bytes_6, bytes_8};
 use cdc_base::{Blob, Buffer, Memory, Xid};
-
-/// The version of the binary log's format.
-const FORMAT_VERSION: u16 = 4;
 
 /// The 19 bytes of a header.
 #[tactic(auto, unfolding(crate::specs::Event::header_bytes, crate::specs::Number::low_first))]

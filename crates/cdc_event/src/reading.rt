@@ -1,0 +1,296 @@
+//! Events from bytes.
+
+ghost use Rattle.std.specs.Prelude.{◌≡◌, ℕ, ◌+◌, ◌<◌, ◌≤◌, ◌++◌, ◌↔◌, length, take, slice_range, slice_index, IfOk, OnErr, IsSome};
+ghost use Rattle.cdc_event.specs.Reading.{format_at, query_at, rotate_at, xid_at, rows_query_at, table_map_at, prepare_at, timestamp_at, body_at, event_of, Gives, HasFault, HasKnownAlgorithm};
+ghost use Rattle.cdc_event.specs.Reading.{fault_of as specs_fault_of};
+ghost use Rattle.cdc_event.specs.Length.{HasGoodLength, kept_header, kept_bytes};
+ghost use Rattle.cdc_event.specs.Length.{shortened as specs_shortened};
+ghost use Rattle.cdc_event.specs.Event.{FitsHeader, header_bytes, Encodes};
+ghost use Rattle.cdc_event.specs.declared.event.Event.{Event};
+ghost use Rattle.cdc_event.specs.declared.fault.EventFault.{EventFault};
+ghost use Rattle.cdc_event.specs.declared.fault.ReadError.TheVariants.{Fault};
+
+use crate::body::Body;
+use crate::event::Event;
+use crate::fault::{EventFault, ReadError};
+use crate::header::{FORMAT_VERSION, HEADER_LENGTH, Header, checksum_length};
+use crate::kind;
+use crate::number::{number_2, number_4, number_6, number_8};
+use cdc_base::{Blob, Memory, Xid, gtrid_of};
+
+/// The fewest bytes of a format event's body: with no byte in its list of lengths.
+const FORMAT_LEAST: usize = 62;
+
+// A part of the first `end` bytes, shared.
+fn part(body: &Blob, end: usize, from: usize, to: usize) -> Result<Blob, Memory>
+    requires ordered { from ≤ to }
+    requires within { to ≤ end }
+    requires whole { end ≤ length body.now }
+    ensures { IfOk result (λ part. part ≡ slice_range (take end body.now) from to) }
+{
+    body.part(from, to)
+}
+
+#[tactic(auto, unfolding(crate::specs::Reading::query_at, crate::specs::Reading::guard))]
+fn read_query(body: &Blob, end: usize) -> Result<Option<Body>, Memory>
+    requires { end ≤ length body.now }
+    ensures read { IfOk result (λ found. found ≡ query_at (take end body.now)) }
+    ensures memory { OnErr result (IsSome (query_at (take end body.now))) }
+{
+    let bytes = &body.bytes()[..end];
+    if bytes.len() < 13 {
+        return Ok(None);
+    }
+    let db_from = 13 + number_2(&bytes[11..13]) as usize;
+    let zero = db_from + bytes[8] as usize;
+    if bytes.len() <= zero || bytes[zero] != 0 {
+        return Ok(None);
+    }
+    Ok(Some(Body::Query {
+        thread: number_4(&bytes[0..4]),
+        seconds: number_4(&bytes[4..8]),
+        error: number_2(&bytes[9..11]),
+        status: part(body, end, 13, db_from)?,
+        db: part(body, end, db_from, zero)?,
+        text: part(body, end, zero + 1, end)?,
+    }))
+}
+
+#[tactic(auto, unfolding(crate::specs::Reading::rotate_at, crate::specs::Reading::guard))]
+fn read_rotate(body: &Blob, end: usize) -> Result<Option<Body>, Memory>
+    requires { end ≤ length body.now }
+    ensures read { IfOk result (λ found. found ≡ rotate_at (take end body.now)) }
+    ensures memory { OnErr result (IsSome (rotate_at (take end body.now))) }
+{
+    let bytes = &body.bytes()[..end];
+    if bytes.len() < 8 {
+        return Ok(None);
+    }
+    Ok(Some(Body::Rotate {
+        position: number_8(&bytes[0..8]),
+        name: part(body, end, 8, end)?,
+    }))
+}
+
+#[tactic(auto, unfolding(crate::specs::Reading::format_at, crate::specs::Reading::guard))]
+fn read_format(body: &Blob, end: usize) -> Result<Option<Body>, Memory>
+    requires { end ≤ length body.now }
+    ensures read { IfOk result (λ found. found ≡ format_at (take end body.now)) }
+    ensures memory { OnErr result (IsSome (format_at (take end body.now))) }
+{
+    let bytes = &body.bytes()[..end];
+    if bytes.len() < FORMAT_LEAST {
+        return Ok(None);
+    }
+    let checksum = bytes[end - 5];
+    if number_2(&bytes[0..2]) != FORMAT_VERSION
+        || bytes[56] as usize != HEADER_LENGTH
+        || checksum > 1
+    {
+        return Ok(None);
+    }
+    Ok(Some(Body::Format {
+        text: part(body, end, 2, 52)?,
+        created: number_4(&bytes[52..56]),
+        lengths: part(body, end, 57, end - 5)?,
+        checksum,
+        tail: number_4(&bytes[end - 4..]),
+    }))
+}
+
+#[tactic(auto, unfolding(crate::specs::Reading::xid_at, crate::specs::Reading::guard))]
+fn read_xid(bytes: &[u8]) -> Option<Body>
+    ensures { result ≡ xid_at bytes.now }
+{
+    if bytes.len() != 8 {
+        return None;
+    }
+    Some(Body::Xid {
+        number: number_8(bytes),
+    })
+}
+
+#[tactic(auto, unfolding(crate::specs::Reading::rows_query_at, crate::specs::Reading::guard))]
+fn read_rows_query(body: &Blob, end: usize) -> Result<Option<Body>, Memory>
+    requires { end ≤ length body.now }
+    ensures read { IfOk result (λ found. found ≡ rows_query_at (take end body.now)) }
+    ensures memory { OnErr result (IsSome (rows_query_at (take end body.now))) }
+{
+    let bytes = &body.bytes()[..end];
+    if bytes.len() < 1 {
+        return Ok(None);
+    }
+    Ok(Some(Body::RowsQuery {
+        size: bytes[0],
+        text: part(body, end, 1, end)?,
+    }))
+}
+
+#[tactic(auto, unfolding(crate::specs::Reading::table_map_at, crate::specs::Reading::guard))]
+fn read_table_map(body: &Blob, end: usize) -> Result<Option<Body>, Memory>
+    requires { end ≤ length body.now }
+    ensures read { IfOk result (λ found. found ≡ table_map_at (take end body.now)) }
+    ensures memory { OnErr result (IsSome (table_map_at (take end body.now))) }
+{
+    let bytes = &body.bytes()[..end];
+    if bytes.len() < 9 {
+        return Ok(None);
+    }
+    let zero = 9 + bytes[8] as usize;
+    if bytes.len() <= zero + 1 || bytes[zero] != 0 {
+        return Ok(None);
+    }
+    let name_from = zero + 2;
+    let last_zero = name_from + bytes[zero + 1] as usize;
+    if bytes.len() <= last_zero || bytes[last_zero] != 0 {
+        return Ok(None);
+    }
+    Ok(Some(Body::TableMap {
+        table: number_6(&bytes[0..6]),
+        flags: number_2(&bytes[6..8]),
+        db: part(body, end, 9, zero)?,
+        name: part(body, end, name_from, last_zero)?,
+        rest: part(body, end, last_zero + 1, end)?,
+    }))
+}
+
+#[tactic(auto, unfolding(crate::specs::Reading::prepare_at, crate::specs::Reading::guard))]
+fn read_prepare(bytes: &[u8]) -> Option<Body>
+    ensures { result ≡ prepare_at bytes.now }
+{
+    if bytes.len() < 13 {
+        return None;
+    }
+    let bqual_from = 13 + number_4(&bytes[5..9]) as usize;
+    if bytes.len() != bqual_from + number_4(&bytes[9..13]) as usize {
+        return None;
+    }
+    let gtrid = gtrid_of(&bytes[13..bqual_from])?;
+    let bqual = gtrid_of(&bytes[bqual_from..])?;
+    Some(Body::XaPrepare {
+        one_phase: bytes[0],
+        xid: Xid {
+            gtrid,
+            bqual,
+            format: number_4(&bytes[1..5]),
+        },
+    })
+}
+
+#[tactic(auto, unfolding(crate::specs::Reading::timestamp_at, crate::specs::Reading::guard))]
+fn read_timestamp(bytes: &[u8]) -> Option<Body>
+    ensures { result ≡ timestamp_at bytes.now }
+{
+    if bytes.len() != 9 {
+        return None;
+    }
+    Some(Body::Timestamp {
+        class: bytes[0],
+        value: number_8(&bytes[1..9]),
+    })
+}
+
+// The first `end` bytes, shared.
+fn front(body: &Blob, end: usize) -> Result<Blob, Memory>
+    requires { end ≤ length body.now }
+    ensures { IfOk result (λ front. front ≡ take end body.now) }
+{
+    body.part(0, end)
+}
+
+#[tactic(auto, unfolding(crate::specs::Reading::body_at))]
+fn read_kind(kind: u8, body: &Blob, end: usize) -> Result<Option<Body>, Memory>
+    requires { end ≤ length body.now }
+    ensures read { IfOk result (λ found. found ≡ body_at kind (take end body.now)) }
+    ensures memory { OnErr result (IsSome (body_at kind (take end body.now))) }
+{
+    match kind {
+        kind::QUERY => read_query(body, end),
+        kind::ROTATE => read_rotate(body, end),
+        kind::FORMAT => read_format(body, end),
+        kind::XID => Ok(read_xid(&body.bytes()[..end])),
+        kind::TABLE_MAP => read_table_map(body, end),
+        kind::ROWS_QUERY => read_rows_query(body, end),
+        kind::XA_PREPARE => Ok(read_prepare(&body.bytes()[..end])),
+        kind::PARTIAL | kind::COMPRESSED => Ok(None),
+        kind::TIMESTAMP => Ok(read_timestamp(&body.bytes()[..end])),
+        23..=25 | 30..=32 => Ok(Some(Body::Rows {
+            bytes: front(body, end)?,
+        })),
+        _ => Ok(Some(Body::Skipped {
+            bytes: front(body, end)?,
+        })),
+    }
+}
+
+fn fault_of(kind: u8) -> EventFault
+    ensures { result ≡ specs_fault_of kind }
+{
+    match kind {
+        kind::COMPRESSED => EventFault::Compressed,
+        kind::PARTIAL => EventFault::Partial,
+        kind::FORMAT => EventFault::BadFormat,
+        kind => EventFault::BadBody(kind),
+    }
+}
+
+// The blob's bytes, each of which is a byte.
+fn plain_bytes(body: &Blob) -> &[u8]
+    ensures value { result.now ≡ body.now }
+    ensures bytes { (i : ℕ) → slice_index body.now i < 256 }
+{
+    let bytes = body.bytes();
+    bytes
+}
+
+// The header with so much less in its length.
+fn shortened(header: Header, less: u32) -> Header
+    requires { less ≤ header.length }
+    ensures value { result ≡ specs_shortened less header }
+    ensures fits { FitsHeader header }
+{
+    Header {
+        length: header.length - less,
+        ..header
+    }
+}
+
+#[tactic(auto, using(crate::proofs::Kept::kept_is_front))]
+fn read_kept(header: &Header, body: &Blob, checksum: u8) -> Result<Event, ReadError>
+    requires length { HasGoodLength checksum header.now }
+    requires whole { header.now.length ≡ 19 + length body.now }
+    ensures exact { Gives result (event_of checksum header.now body.now) }
+    ensures header { FitsHeader header.now }
+    ensures bytes { (i : ℕ) → slice_index body.now i < 256 }
+{
+    let less = checksum_length(checksum, header.kind);
+    let kept = shortened(*header, less);
+    let bytes = plain_bytes(body);
+    match read_kind(header.kind, body, bytes.len() - less as usize)? {
+        Some(body) => Ok(Event { header: kept, body }),
+        None => Err(ReadError::Fault(fault_of(header.kind))),
+    }
+}
+
+/// The event of a header and the bytes behind it, or the first fault of its body.
+///
+/// `checksum` is the setting at the event's place: the algorithm of the last format event before it in
+/// its file, and 0 where there is none. Under setting 1 an event of any type but a format event loses its
+/// last four bytes, unverified, and its length field is lowered by four in what is answered. The event's
+/// byte strings share the bytes of `body`; none is copied. A fault takes no memory: `Memory` comes only
+/// where there is an event.
+pub fn read_body(header: &Header, body: &Blob, checksum: u8) -> Result<Event, ReadError>
+    requires setting { checksum ≤ 1 }
+    requires length { HasGoodLength checksum header.now }
+    requires whole { header.now.length ≡ 19 + length body.now }
+    // What is read is spelled so.
+    ensures event { IfOk result (λ event. Encodes event (header_bytes (kept_header checksum header.now) ++ kept_bytes checksum header.now.kind body.now)) }
+    // What is spelled so is read, unless memory runs out.
+    ensures only { (event : Event) → HasKnownAlgorithm event.body → Encodes event (header_bytes (kept_header checksum header.now) ++ kept_bytes checksum header.now.kind body.now) → Gives result (Ok event) }
+    // A fault is answered exactly where it stands.
+    ensures fault { (fault : EventFault) → (result ≡ Err (Fault fault)) ↔ HasFault header.now.kind (kept_bytes checksum header.now.kind body.now) fault }
+    // The same as a function of the bytes.
+    ensures exact { Gives result (event_of checksum header.now body.now) }
+{
+    read_kept(header, body, checksum)
+}
