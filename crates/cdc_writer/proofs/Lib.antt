@@ -2,4 +2,10 @@ mod Bodies
 mod Marks
 mod Colons
 mod Laid
-mod Rows
+mod PrintedRows
+mod StatementsOnce
+mod Queries
+mod Cases
+mod Counted
+mod HeadBytes
+mod Short

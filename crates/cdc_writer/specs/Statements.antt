@@ -3,7 +3,7 @@ use Rattle.std.specs.Prelude.{ℕ, ◌+◌, ◌^◌, ◌≤◌, Bool, true, fals
 use Rattle.std.specs.List.{list_any}
 use Rattle.cdc_base.specs.declared.rename.Rename.{Rename}
 use Rattle.cdc_model.specs.Records.{Row, CommittedBranch}
-use Rattle.cdc_model.specs.Print.{Statement, branch_statement, same_statement, statement_event}
+use Rattle.cdc_model.specs.Print.{Statement, branch_statement, same_statement, statement_event, distinct, statements_of}
 use Rattle.cdc_writer.specs.Events.{renamed_rows}
 
 -- whether a branch's statement is this one
@@ -32,3 +32,7 @@ branch_events rules branch = if is_none (branch_statement branch.rows) then rena
 pub record IsShort (statement : Statement) : Type 0 where
   pub database : length statement.0 ≤ 64
   pub most : 33 + length statement.0 + length statement.1 ≤ 2 ^ 27 + 256
+
+-- the events of all statements, each statement once
+abbrev pub all_statement_events : List CommittedBranch → List Row
+all_statement_events branches = map statement_event (distinct (statements_of branches))

@@ -6,6 +6,18 @@
 #![tactic(auto)]
 
 mod event;
+mod head;
+mod laws;
+mod length;
 mod mark;
+mod printing;
 mod rows;
 mod statement;
+mod transaction;
+
+pub use head::{HEAD_LENGTH, write_head};
+pub use laws::{
+    head_has_its_length, prints_have_their_length, prints_without_rows_are_short,
+};
+pub use length::print_length;
+pub use printing::{PRINT_MAX, PrintError, print};
