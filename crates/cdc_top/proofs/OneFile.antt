@@ -1,7 +1,7 @@
 -- The one file of transactions whose prints are short: none is cut off.
 use Rattle.std.proofs.Common.{◌≡◌, ℕ, ◌+◌, ◌*◌, ◌^◌, ◌<◌, ◌≤◌, Bool, true, false, not, cond, ltb, leb, List, [], ◌∷◌, ◌++◌, length, take, refl, sym, ap, ◌∙◌, arith, suc}
 use Rattle.std.specs.List.{AllByRecursion, before_first, position_or_len}
-use Rattle.std.proofs.lemmas.Bool.{le-leb, ltb-false}
+use Rattle.std.proofs.lemmas.Bool.{le-leb, le-ltb}
 use Rattle.cdc_model.specs.Records.{Transaction}
 use Rattle.cdc_model.specs.Print.{printed_bytes, printed_length}
 use Rattle.cdc_model.specs.Transaction.{is_oversized, settled_transactions, ordered_transactions, first_key}
@@ -12,11 +12,14 @@ use Rattle.cdc_top.specs.Small.{IsShortPrint, shown_file}
 -- where no item passes the test, all stand before the first that does
 none_first : {X : Type 0} (test : X → Bool) (xs : List X) → AllByRecursion (λ x. test x ≡ false) xs → before_first test xs ≡ xs
 none_first test [] a = refl
-none_first test (x ∷ xs) a = rw a.0 (ap (λ ys. x ∷ ys) (none_first test xs a.1))
+none_first test (x ∷ xs) a =
+    let n = position_or_len test xs in
+    let more : 1 + n ≡ suc n = omega arith in
+    rw (a.0, more) (ap (λ ys. x ∷ ys) (none_first test xs a.1))
 
 not_oversized : (txns : List Transaction) → AllByRecursion IsShortPrint txns → AllByRecursion (λ txn. is_oversized [] txn ≡ false) txns
 not_oversized [] a = tt
-not_oversized (txn ∷ txns) a = (ltb-false (2 ^ 28) (printed_length [] txn) (omega (arith, a.0)), not_oversized txns a.1)
+not_oversized (txn ∷ txns) a = (le-ltb (2 ^ 28) (printed_length [] txn) (omega (arith, a.0)), not_oversized txns a.1)
 
 -- none is oversized
 pub all_settled : (txns : List Transaction) → AllByRecursion IsShortPrint txns → before_first (is_oversized []) txns ≡ txns
