@@ -1,4 +1,6 @@
 mod Nodes
 mod OneFile
 mod OrderLength
+mod ReadLogs
 mod SmallLogs
+mod Written

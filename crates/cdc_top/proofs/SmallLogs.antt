@@ -18,7 +18,9 @@ use Rattle.cdc_model.specs.Start.{same_xid, xid_order, find_open, without, enter
 use Rattle.cdc_model.specs.Soundness.{entry_fault, sound_entries, sound_history}
 use Rattle.cdc_model.specs.Branch.{Begun, committed, branch_of, begun, is_new, new_branches, committed_branches, is_settled}
 use Rattle.cdc_model.specs.Transaction.{node_branches, all_branches, placed, put, add_settled, settled_keys, has_key, transaction_of, transactions_of, ordered_transactions, logs_low_water_mark}
-use Rattle.cdc_top.specs.Small.{IsShortKey, IsSmallKind, IsSmallEntry, IsSmallOpen, IsSmallBranch, IsSmallTransaction, IsSmallLog}
+use Rattle.cdc_writer.specs.Short.{HasShortId}
+use Rattle.cdc_writer.specs.Short.{HasNoRows as BranchHasNoRows}
+use Rattle.cdc_top.specs.Small.{IsSmallKind, IsSmallEntry, IsSmallOpen, IsSmallBranch, IsSmallTransaction, IsSmallLog}
 
 -- ---- lists of which each item has a property
 
@@ -140,26 +142,26 @@ branches_small last logs a =
 
 -- ---- keys and transactions
 
-placed_short : (order : Ordering) (key first : Key) (rest later : List Key) → IsShortKey key → AllByRecursion IsShortKey (first ∷ rest) → AllByRecursion IsShortKey later
-    → AllByRecursion IsShortKey (placed order key first rest later)
+placed_short : (order : Ordering) (key first : Key) (rest later : List Key) → HasShortId key → AllByRecursion HasShortId (first ∷ rest) → AllByRecursion HasShortId later
+    → AllByRecursion HasShortId (placed order key first rest later)
 placed_short Less key first rest later k a others = (k, a)
 placed_short Equal key first rest later k a others = a
 placed_short Greater key first rest later k a others = (a.0, others)
 
-put_short : (key : Key) (keys : List Key) → IsShortKey key → AllByRecursion IsShortKey keys → AllByRecursion IsShortKey (put key keys)
+put_short : (key : Key) (keys : List Key) → HasShortId key → AllByRecursion HasShortId keys → AllByRecursion HasShortId (put key keys)
 put_short key [] k a = (k, tt)
 put_short key (first ∷ rest) k a = placed_short (key_order key first) key first rest (put key rest) k a (put_short key rest k a.1)
 
-added_by : (settled : Bool) (key : Key) (keys : List Key) → IsShortKey key → AllByRecursion IsShortKey keys → AllByRecursion IsShortKey (cond settled (put key keys) keys)
+added_by : (settled : Bool) (key : Key) (keys : List Key) → HasShortId key → AllByRecursion HasShortId keys → AllByRecursion HasShortId (cond settled (put key keys) keys)
 added_by true key keys k a = put_short key keys k a
 added_by false key keys k a = a
 
-keys_short : (mark : ℕ) (keys : List Key) (branches : List CommittedBranch) → AllByRecursion IsShortKey keys → AllByRecursion IsSmallBranch branches → AllByRecursion IsShortKey (fold (add_settled mark) keys branches)
+keys_short : (mark : ℕ) (keys : List Key) (branches : List CommittedBranch) → AllByRecursion HasShortId keys → AllByRecursion IsSmallBranch branches → AllByRecursion HasShortId (fold (add_settled mark) keys branches)
 keys_short mark keys [] k a = k
 keys_short mark keys (branch ∷ branches) k a =
     keys_short mark (add_settled mark keys branch) branches (added_by (is_settled mark branch.key) branch.key keys a.0.key k) a.1
 
-transactions_small : (branches : List CommittedBranch) (number : ℕ) (keys : List Key) → AllByRecursion IsSmallBranch branches → AllByRecursion IsShortKey keys
+transactions_small : (branches : List CommittedBranch) (number : ℕ) (keys : List Key) → AllByRecursion IsSmallBranch branches → AllByRecursion HasShortId keys
     → AllByRecursion IsSmallTransaction (transactions_of branches number keys)
 transactions_small branches number [] a k = tt
 transactions_small branches number (key ∷ keys) a k =

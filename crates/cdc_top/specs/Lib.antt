@@ -1,5 +1,6 @@
 pub mod Answers
 pub mod Logs
+pub mod Printing
 pub mod Small
 pub mod Thin
 pub mod Words

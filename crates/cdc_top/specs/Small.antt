@@ -9,11 +9,9 @@ use Rattle.cdc_model.specs.declared.entry.EntryKind.TheVariants.{Prepare, OnePha
 use Rattle.cdc_model.specs.declared.start.NodeLog.{NodeLog}
 use Rattle.cdc_model.specs.Print.{printed_length}
 use Rattle.cdc_model.specs.Output.{file_head, prints_at}
+use Rattle.cdc_writer.specs.Short.{HasNoRows, HasShortId}
+use Rattle.cdc_model.specs.Soundness.{IsCounted}
 use Rattle.cdc_model.specs.Records.{LogEntry, CommittedBranch, OpenBranch, Transaction}
-
-abbrev pub IsShortKey : Key → Type 0
-IsShortKey (Shared timestamp gtrid) = length gtrid ≤ 64
-IsShortKey (PlainKey timestamp node entry) = Unit {0}
 
 -- an entry that brings no rows, under an id of at most 64 bytes
 abbrev pub IsSmallKind : EntryKind → Type 0
@@ -32,12 +30,12 @@ IsSmallOpen branch = branch.rows ≡ []
 
 pub record IsSmallBranch (branch : CommittedBranch) : Type 0 where
   pub rows : branch.rows ≡ []
-  pub key : IsShortKey branch.key
+  pub key : HasShortId branch.key
 
 -- a transaction of branches without rows
 pub record IsSmallTransaction (txn : Transaction) : Type 0 where
-  pub branches : AllByRecursion (λ (branch : CommittedBranch). branch.rows ≡ []) txn.branches
-  pub key : IsShortKey txn.key
+  pub branches : AllByRecursion HasNoRows txn.branches
+  pub key : HasShortId txn.key
 
 -- a log of small entries, read from its beginning
 pub record IsSmallLog (log : NodeLog) : Type 0 where
@@ -52,3 +50,9 @@ IsShortPrint txn = printed_length [] txn ≤ 242
 abbrev pub shown_file : List Transaction → List ℕ
 shown_file [] = []
 shown_file (txn ∷ txns) = file_head ++ prints_at [] (length file_head) (txn ∷ txns)
+
+-- what every log that was read in the thin form is: small, read from its beginning, of at most 8,192 entries
+pub record IsSmallRead (log : NodeLog) : Type 0 where
+  pub small : IsSmallLog log
+  pub counted : IsCounted log
+  pub few : length log.entries ≤ 8192
