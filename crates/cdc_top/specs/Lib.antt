@@ -1,4 +1,5 @@
 pub mod Answers
+pub mod Call
 pub mod Logs
 pub mod Printing
 pub mod Small

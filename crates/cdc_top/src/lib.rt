@@ -6,6 +6,7 @@
 
 mod answer;
 mod logs;
+mod print_call;
 mod print_file;
 mod thin;
 mod words;
