@@ -23,7 +23,7 @@ cons_below byte bytes b h (suc i) = h.below i
 none_below : (i : ℕ) → get_or [] i 0 < 256
 none_below i = omega arith
 
-take_bytes : (n : ℕ) (bytes : List ℕ) → AreBytes bytes → AreBytes (take n bytes)
+pub take_bytes : (n : ℕ) (bytes : List ℕ) → AreBytes bytes → AreBytes (take n bytes)
 take_bytes zero bytes h = record { below = none_below }
 take_bytes (suc n) [] h = record { below = none_below }
 take_bytes (suc n) (byte ∷ bytes) h = record { below = cons_below byte (take n bytes) (h.below 0) (take_bytes n bytes (tail_bytes byte bytes h)) }
@@ -57,6 +57,10 @@ last_number width bytes from h k =
     let none : [] ≡ drop (from + width) bytes = sym (ap (λ n. drop n bytes) k ∙ drop-length bytes) in
     sym (append-nil (low_first width (number_of (slice_range bytes from (from + width))))) ∙ number_step width bytes from h (omega arith) none
 
+-- a number that is read up to the end
+pub number_to_end : (width : ℕ) (bytes : List ℕ) (from : ℕ) → AreBytes bytes → from + width ≡ length bytes → low_first width (number_of (slice_range bytes from (length bytes))) ≡ drop from bytes
+number_to_end width bytes from h k = ap (λ to. low_first width (number_of (slice_range bytes from to))) (sym k) ∙ last_number width bytes from h k
+
 -- a byte, and what stands behind it
 pub byte_step : (bytes : List ℕ) (from : ℕ) {rest : List ℕ} → from < length bytes → rest ≡ drop (suc from) bytes → get_or bytes from 0 ∷ rest ≡ drop from bytes
 byte_step bytes from h e = ap (λ r. get_or bytes from 0 ∷ r) e ∙ sym (drop-cons bytes from 0 h)
@@ -79,6 +83,19 @@ stands_at bytes xs rest from e = record {
   behind = drop_more from (length xs) bytes ∙ (ap (drop (length xs)) e ∙ drop-append_seam xs rest);
 }
 
+-- the same, up to a place that is named otherwise
+pub record StandsTo (bytes xs rest : List ℕ) (from to : ℕ) : Type 0 where
+  pub here : slice_range bytes from to ≡ xs
+  pub behind : drop to bytes ≡ rest
+
+pub stands_to : (bytes xs rest : List ℕ) (from to : ℕ) → from + length xs ≡ to → drop from bytes ≡ xs ++ rest → StandsTo bytes xs rest from to
+stands_to bytes xs rest from to k e =
+    let s = stands_at bytes xs rest from e in
+    record {
+      here = ap (λ n. slice_range bytes from n) (sym k) ∙ s.here;
+      behind = ap (λ n. drop n bytes) (sym k) ∙ s.behind;
+    }
+
 -- a number that is spelled is read again
 pub record ReadAt (width number : ℕ) (bytes rest : List ℕ) (from : ℕ) : Type 0 where
   pub here : number_of (slice_range bytes from (from + width)) ≡ number
@@ -92,6 +109,12 @@ read_at width number bytes rest from h e =
       here = ap (λ w. number_of (slice_range bytes from (from + w))) (sym size) ∙ (ap number_of s.here ∙ number_again width number h);
       behind = ap (λ w. drop (from + w) bytes) (sym size) ∙ s.behind;
     }
+
+-- a number that is spelled up to the end
+pub read_to_end : (width number : ℕ) (bytes : List ℕ) (from : ℕ) → number < 256 ^ width → from + width ≡ length bytes → drop from bytes ≡ low_first width number → number_of (slice_range bytes from (length bytes)) ≡ number
+read_to_end width number bytes from h k e =
+    let r = read_at width number bytes [] from h (e ∙ sym (append-nil (low_first width number))) in
+    ap (λ n. number_of (slice_range bytes from n)) (sym k) ∙ r.here
 
 -- a byte that is spelled stands there
 pub record ByteAt (byte : ℕ) (bytes rest : List ℕ) (from : ℕ) : Type 0 where

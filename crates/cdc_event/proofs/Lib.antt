@@ -5,3 +5,11 @@ mod Sizes
 mod Kept
 mod Steps
 mod Query
+mod ShortBodies
+mod FormatBody
+mod TableMapBody
+mod PrepareBody
+mod Bodies
+mod Whole
+mod Faults
+mod Correspondence

@@ -1,16 +1,15 @@
 -- A query's body, read and spelled.
-use Rattle.std.proofs.Common.{◌≡◌, ℕ, zero, suc, ◌+◌, ◌-◌, ◌<◌, ◌≤◌, ◌==◌, ◌^◌, nat_le, nat_lt, List, ◌∷◌, ◌++◌, length, drop, get_or, refl, ap, sym, ◌∙◌, subst, arith, true, Some}
+use Rattle.std.proofs.Common.{◌≡◌, ℕ, ◌+◌, ◌<◌, ◌≤◌, ◌==◌, nat_le, nat_lt, List, length, get_or, refl, sym, ◌∙◌, subst, arith, true, Some}
 use Rattle.std.specs.List.{slice_range}
-use Rattle.std.proofs.lemmas.Bool.{ltb-false}
 use Rattle.std.proofs.lemmas.Bool.Decides.{nat_tests}
 use Rattle.cdc_event.specs.declared.body.Body.{Body}
 use Rattle.cdc_event.specs.declared.body.Body.TheVariants.{Query}
-use Rattle.cdc_event.specs.Number.{low_first, number_of}
+use Rattle.cdc_event.specs.Number.{number_of}
 use Rattle.cdc_event.specs.Event.{body_bytes, FitsBody}
 use Rattle.cdc_event.specs.Reading.{IsBodyOf, guard, query_of, query_with, query_at}
 use Rattle.cdc_event.proofs.Numbers.{AreBytes}
 use Rattle.cdc_event.proofs.Fields.{length_range, part_step, last_part, number_bound, stands_at, read_at, byte_at}
-use Rattle.cdc_event.proofs.Steps.{guard_some, guard_true, same_some, number_is, byte_is}
+use Rattle.cdc_event.proofs.Steps.{guard_some, same_some, number_is, byte_is}
 
 with_spelled : (status db : ℕ) (bytes : List ℕ) (body : Body) → AreBytes bytes → 13 ≤ length bytes → number_of (slice_range bytes 11 13) ≡ status → get_or bytes 8 0 ≡ db → query_with status db bytes ≡ Some body → IsBodyOf 2 bytes body
 unfolding body_bytes FitsBody

@@ -1,5 +1,5 @@
 -- Layouts: a test that stood, and each field of a layout in turn.
-use Rattle.std.proofs.Common.{◌≡◌, ℕ, suc, ◌+◌, ◌<◌, ◌≤◌, Bool, true, false, List, ◌∷◌, ◌++◌, length, drop, get_or, refl, ap, sym, ◌∙◌, arith, Option, Some, None}
+use Rattle.std.proofs.Common.{◌≡◌, ℕ, suc, ◌+◌, ◌<◌, ◌≤◌, Bool, true, false, List, ◌∷◌, ◌++◌, length, drop, get_or, refl, ap, sym, ◌∙◌, arith, Option, Some}
 use Rattle.std.specs.List.{slice_range}
 use Rattle.cdc_event.specs.declared.body.Body.{Body}
 use Rattle.cdc_event.specs.Number.{low_first, number_of}

@@ -3,3 +3,4 @@ pub mod Event
 pub mod Table
 pub mod Length
 pub mod Reading
+pub mod Laws

@@ -1,6 +1,5 @@
 -- What an event's bytes hold, and what is wrong with them.
-use Rattle.std.specs.Prelude.{◌≡◌, ◌≢◌, ℕ, zero, suc, ◌+◌, ◌-◌, ◌≤◌, ◌==◌, nat_le, nat_lt, Bool, IsTrue, if◌then◌else◌, List, [], ◌∷◌, ◌++◌, length, slice_range, slice_index, Option, Some, None, Result, Ok, Err, IsOk}
-use Rattle.cdc_base.specs.declared.xid.Xid.{Xid}
+use Rattle.std.specs.Prelude.{◌≡◌, ◌≢◌, ℕ, ◌+◌, ◌-◌, ◌≤◌, ◌==◌, nat_le, nat_lt, Bool, IsTrue, if◌then◌else◌, List, length, slice_range, slice_index, Option, Some, None, Result, Ok, Err, IsOk}
 use Rattle.cdc_event.specs.declared.header.Header.{Header}
 use Rattle.cdc_event.specs.declared.body.Body.{Body}
 use Rattle.cdc_event.specs.declared.body.Body.TheVariants.{Format, Query, Rotate, RowsQuery, TableMap, Rows, XaPrepare, Timestamp, Skipped}
@@ -12,7 +11,7 @@ use Rattle.cdc_event.specs.declared.fault.ReadError.{ReadError}
 use Rattle.cdc_event.specs.declared.fault.ReadError.TheVariants.{Fault, Memory}
 use Rattle.cdc_event.specs.Number.{number_of}
 use Rattle.cdc_event.specs.Length.{kept_header, kept_bytes}
-use Rattle.cdc_event.specs.Event.{header_bytes, body_bytes, is_rows_kind, has_kind, FitsBody, Encodes}
+use Rattle.cdc_event.specs.Event.{body_bytes, is_rows_kind, has_kind, FitsBody}
 
 -- a format event names algorithm 0 or 1
 abbrev pub HasKnownAlgorithm : Body → Type 0

@@ -1,11 +1,17 @@
 //! The types of events that have a layout of their own.
 
 pub const QUERY: u8 = 2;
+
 pub const ROTATE: u8 = 4;
+
 pub const FORMAT: u8 = 15;
+
 pub const XID: u8 = 16;
+
 pub const TABLE_MAP: u8 = 19;
+
 pub const ROWS_QUERY: u8 = 29;
+
 pub const XA_PREPARE: u8 = 38;
 /// Rows updated in part, which are refused.
 pub const PARTIAL: u8 = 39;

@@ -9,6 +9,7 @@ mod event;
 mod fault;
 mod header;
 pub mod kind;
+mod laws;
 mod number;
 mod reading;
 mod sharing;
@@ -18,5 +19,9 @@ pub use body::Body;
 pub use event::Event;
 pub use fault::{EventFault, ReadError};
 pub use header::{HEADER_LENGTH, Header, LENGTH_MAX, check_length, read_header};
+pub use laws::{
+    events_and_bytes_correspond, faults_are_told_apart, no_event_begins_another,
+    what_is_written_is_read,
+};
 pub use reading::read_body;
 pub use writing::write_event;

@@ -83,7 +83,9 @@ fn read_format(body: &Blob, end: usize) -> Result<Option<Body>, Memory>
         return Ok(None);
     }
     let checksum = bytes[end - 5];
-    if number_2(&bytes[0..2]) != FORMAT_VERSION || bytes[56] as usize != HEADER_LENGTH || checksum > 1
+    if number_2(&bytes[0..2]) != FORMAT_VERSION
+        || bytes[56] as usize != HEADER_LENGTH
+        || checksum > 1
     {
         return Ok(None);
     }

@@ -1,0 +1,26 @@
+//! Laws of the event encoding. Each function does nothing; its clause is the law.
+
+ghost use Rattle.cdc_event.specs.Laws.{WrittenIsRead, OneEvent, OneByteList, NoFront, OneFault, FormatByFields};
+
+/// What was written is read again, where nothing ends with a checksum, but for a format event whose
+/// algorithm isn't known.
+pub fn what_is_written_is_read()
+    ensures { WrittenIsRead }
+{}
+
+/// A byte list is at most one event, and an event has at most one byte list.
+pub fn events_and_bytes_correspond()
+    ensures one_event { OneEvent }
+    ensures one_byte_list { OneByteList }
+{}
+
+/// No event's bytes are a proper front of another's.
+pub fn no_event_begins_another()
+    ensures { NoFront }
+{}
+
+/// An event's body has at most one fault; a format event's is told by its fields.
+pub fn faults_are_told_apart()
+    ensures one_fault { OneFault }
+    ensures format { FormatByFields }
+{}
