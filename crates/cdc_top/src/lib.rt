@@ -7,3 +7,5 @@
 mod events;
 mod pairs;
 mod thin;
+
+pub use thin::thin_form_is_unique;

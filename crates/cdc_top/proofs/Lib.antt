@@ -1,0 +1,3 @@
+pub mod EventLists
+pub mod PairLists
+pub mod ThinLemmas
