@@ -1,15 +1,15 @@
-mod Numbers
-mod Fields
-mod HeaderBytes
-mod Sizes
-mod Kept
-mod Steps
-mod Query
-mod ShortBodies
-mod FormatBody
-mod TableMapBody
-mod PrepareBody
-mod Bodies
-mod Whole
-mod Faults
-mod Correspondence
+pub mod Numbers
+pub mod Fields
+pub mod HeaderBytes
+pub mod Sizes
+pub mod Kept
+pub mod Steps
+pub mod Query
+pub mod ShortBodies
+pub mod FormatBody
+pub mod TableMapBody
+pub mod PrepareBody
+pub mod Bodies
+pub mod Whole
+pub mod Faults
+pub mod Correspondence

@@ -1,6 +1,10 @@
+mod Answered
+mod EventLists
 mod Nodes
 mod OneFile
 mod OrderLength
+mod PairLists
 mod ReadLogs
 mod SmallLogs
+mod ThinLemmas
 mod Written

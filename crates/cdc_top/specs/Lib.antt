@@ -4,4 +4,5 @@ pub mod Logs
 pub mod Printing
 pub mod Small
 pub mod Thin
+pub mod ThinReading
 pub mod Words

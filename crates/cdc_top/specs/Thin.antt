@@ -1,5 +1,5 @@
 -- The thin form of a node's log, the one that is read as yet: pairs of a prepare without rows and its commit.
-use Rattle.std.specs.Prelude.{◌≡◌, ℕ, ◌+◌, ◌^◌, ◌<◌, ◌≤◌, ◌⊎◌, List, [], ◌∷◌, ◌++◌, length, map}
+use Rattle.std.specs.Prelude.{◌≡◌, ℕ, ◌+◌, ◌^◌, ◌<◌, ◌≤◌, ◌⊎◌, List, [], ◌∷◌, ◌++◌, length}
 use Rattle.std.specs.List.{AllByRecursion, AllZip, flat_map}
 use Rattle.cdc_base.specs.declared.xid.Xid.{Xid}
 use Rattle.cdc_event.specs.declared.body.Body.{Body}
@@ -79,7 +79,7 @@ entry_at at size kind = record {
   kind = kind;
   at = record { file = 1; at = at };
   end = record { file = 1; at = at + size };
-  checksum = 0
+  checksum = 0;
 }
 
 -- the two entries of a pair that begins at a place: a Prepare without rows, and its Commit
@@ -133,3 +133,7 @@ IsNotThin files = (log : NodeLog) → IsThinLog files log → ⊥
 -- the logs of all nodes, each in the thin form
 abbrev pub AreThinLogs : List (List (List ℕ)) → List NodeLog → Type 0
 AreThinLogs nodes logs = AllZip IsThinLog nodes logs
+
+-- a file is at most one log
+abbrev pub ThinFormIsUnique : Type 0
+ThinFormIsUnique = (file : List ℕ) (a b : NodeLog) → IsThinFile file a → IsThinFile file b → a ≡ b

@@ -5,11 +5,15 @@
 #![tactic(auto)]
 
 mod answer;
+mod events;
 mod logs;
+mod pairs;
 mod print_call;
 mod print_file;
 mod thin;
 mod words;
 
 pub use answer::Answer;
+pub use print_call::top;
+pub use thin::thin_form_is_unique;
 pub use words::{FILES_MAX, is_print};
