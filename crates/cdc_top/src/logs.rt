@@ -74,6 +74,7 @@ fn read_next<S: Source>(
 ) -> Result<Option<u32>, LogsError>
     ensures step { IsTrue S.tells → IfOk result (IsStep (S.held source.old) node logs.old logs.new not_yet) }
     ensures read { AllByRecursion IsRead logs.old → IfOk result (λ _. AllByRecursion IsRead logs.new) }
+    ensures many { IfOk result (λ _. length logs.new ≤ length logs.old + 1) }
     ensures err { IfErr result (HasStepCause node (S.faults source.old) (S.faults source.new)) }
     ensures later { S.faults source.old ≤ S.faults source.new }
     ensures held { S.held source.new ≡ S.held source.old }
@@ -95,6 +96,7 @@ pub fn read_logs<S: Source>(alloc: Global, nodes: &mut Vec<S>) -> Result<LogList
     requires { length nodes.old.items ≤ 256 }
     ensures told { IsTrue S.tells → IfOk result (AreThinLogs (map S.held nodes.old.items)) }
     ensures read { IfOk result (AllByRecursion IsRead) }
+    ensures many { IfOk result (λ logs. length logs ≤ length nodes.old.items) }
     ensures err { IfErr result (HasCause S.tells (map S.held nodes.old.items) (map S.faults nodes.old.items) (map S.faults nodes.new.items)) }
     ensures later { NoneFell (map S.faults nodes.old.items) (map S.faults nodes.new.items) }
     ensures held { map S.held nodes.new.items ≡ map S.held nodes.old.items }

@@ -53,3 +53,64 @@ fn print_nodes<S: Source, K: Sink>(
         Err(WriteError::Memory) => Answer::Memory,
     }
 }
+
+/// Answers the words of the command line: `print FILE ..`, with the log of one node a FILE.
+///
+/// It reads each of `nodes`, and writes the transactions of all in the global order to `out`, as one file without
+/// rotation and without renaming; the answer's line goes to `err`. The result is the exit status:
+///
+/// | Status | Line | When |
+/// |---|---|---|
+/// | 0 | none | the whole file was written |
+/// | 2 | `cdc: usage` | exactly where the words are no command |
+/// | 3 | `cdc: node N not yet` | the logs of nodes aren't all in the thin form; N is the least such node |
+/// | 4 | `cdc: read node N` | the source of node N failed in this call |
+/// | 8 | `cdc: memory` | there was no memory |
+/// | 9 | `cdc: sink` | `out` failed in this call, and the status would be 0 |
+///
+/// On 2, 3 and 4 nothing was written to `out`, on 8 and 9 a front of the file. A line that can't be written
+/// changes no status. Nodes are counted from 1.
+pub fn top<S: Source, K: Sink>(
+    alloc: Global,
+    words: &[Text],
+    nodes: &mut Vec<S>,
+    out: &mut K,
+    err: &mut K,
+) -> u8
+    // One source a file word.
+    requires { command.is_print words.now ≡ true → length nodes.old.items + 1 ≡ length words.now }
+
+    // The promises, status by status.
+    ensures answered { IsAnswered S.tells K.tells record {
+        words = words.now;
+        nodes = map S.held nodes.old.items;
+        reads_before = map S.faults nodes.old.items;
+        reads_now = map S.faults nodes.new.items;
+        out_before = K.written out.old;
+        out_now = K.written out.new;
+        faults_before = K.faults out.old;
+        faults_now = K.faults out.new
+    } result }
+
+    // The answer, with the node that it names, and its line.
+    ensures answer { (answer : Answer) × (result ≡ answers.status_of answer) × IsAnswerOf S.tells K.tells record {
+        words = words.now;
+        nodes = map S.held nodes.old.items;
+        reads_before = map S.faults nodes.old.items;
+        reads_now = map S.faults nodes.new.items;
+        out_before = K.written out.old;
+        out_now = K.written out.new;
+        faults_before = K.faults out.old;
+        faults_now = K.faults out.new
+    } answer × (IsTrue K.tells → answers.IsSaid (K.written err.old) (answers.line_of answer) (K.written err.new) (K.faults err.old) (K.faults err.new)) }
+
+    // No count falls, and sources hold what they held.
+    ensures later { NoneFell (map S.faults nodes.old.items) (map S.faults nodes.new.items) }
+    ensures sink_later { K.faults out.old ≤ K.faults out.new }
+    ensures line_later { K.faults err.old ≤ K.faults err.new }
+    ensures held { map S.held nodes.new.items ≡ map S.held nodes.old.items }
+{
+    let answer = print_nodes(alloc, words, nodes, out);
+    report(answer, err);
+    status(answer)
+}

@@ -31,5 +31,6 @@ loop-place-preserved g c =
       held = held_kept g.S.Source.held items c.loop-place.place old c.read_next.new.source c.index_mut.ensures.value c.read_next.ensures.held ∙ c.loop-place.invariant.held;
       later = later_kept g.S.Source.faults c.args.nodes.now.items items c.loop-place.place old c.read_next.new.source within c.index_mut.ensures.value c.read_next.ensures.later c.loop-place.invariant.later;
       read = c.in-Ok.ensures.read c.loop-place.invariant.read;
+      many = omega (arith, c.in-Ok.ensures.many, c.loop-place.invariant.many);
       told = λ tells. step_kept (map g.S.Source.held c.args.nodes.now.items) c.loop-place.place (g.S.Source.held old) c.loop-place.logs c.read_next.new.logs c.loop-place.not_yet c.in-Ok.least inside here (c.loop-place.invariant.told tells) (c.in-Ok.ensures.step tells)
     }

@@ -1,0 +1,103 @@
+-- From an answer to the promises of its status.
+use Rattle.std.proofs.Common.{◌≡◌, ℕ, ◌+◌, ◌≤◌, ◌<◌, ◌⊎◌, Bool, true, false, IsTrue, List, [], ◌∷◌, length, inl, inr, arith, refl, sym, ap, ◌∙◌, subst, ⊎_elim, nat_le, leb}
+use Rattle.std.proofs.lemmas.Bool.{cases_lt}
+use Rattle.cdc_outside.specs.Count.{Rose}
+use Rattle.cdc_model.specs.declared.start.NodeLog.{NodeLog}
+use Rattle.cdc_top.specs.declared.answer.Answer.{Answer}
+use Rattle.cdc_top.specs.declared.answer.Answer.TheVariants.{Done, Usage, NotYet, Read, Memory, Sink}
+use Rattle.cdc_top.specs.Answers.{status_of}
+use Rattle.cdc_top.specs.Thin.{IsThinLog, AreThinLogs}
+use Rattle.cdc_top.specs.Logs.{files_of, IsLeastNotThin, RoseAt}
+use Rattle.cdc_top.specs.Words.{is_print}
+use Rattle.cdc_top.specs.Call.{PrintCall, IsInForm, WroteAll, WroteFront, WroteNothing, IsAnswerOf, NoneFailed, IsAnswered}
+
+-- words can't be a command and none
+no_both : (words : List (List ℕ)) → is_print words ≡ true → is_print words ≡ false → ⊥
+no_both words yes no = let e : true ≡ false = sym yes ∙ no in absurd (cc)
+
+-- among logs in the thin form there is none that isn't
+thin_at : (nodes : List (List (List ℕ))) (logs : List NodeLog) (place : ℕ) → AreThinLogs nodes logs → place < length nodes → (log : NodeLog) × IsThinLog (files_of nodes (place + 1)) log
+thin_at nodes logs place all within = ?
+
+not_both : (told : Bool) (call : PrintCall) (node : ℕ) → IsInForm call → IsLeastNotThin call.nodes node → ⊥
+not_both told call node form least = ?
+
+pub answered : (told shown : Bool) (call : PrintCall) (answer : Answer) → IsAnswerOf told shown call answer → IsAnswered told shown call (status_of answer)
+answered told shown call Done a = record {
+  statuses = inl refl;
+  usage = λ e. absurd (omega (arith, e));
+  only_usage = λ no. absurd (no_both call.words a.0 no);
+  done = λ t s e. a.1 t s;
+  nothing = λ s e. absurd (⊎_elim (λ p. omega (arith, p)) (⊎_elim (λ p. omega (arith, p)) (λ p. omega (arith, p))) e);
+  front = λ t s e. absurd (⊎_elim (λ p. omega (arith, p)) (λ p. omega (arith, p)) e);
+  read = λ e. absurd (omega (arith, e));
+  not_yet = λ t e. absurd (omega (arith, e));
+  sink = λ e. absurd (omega (arith, e));
+  sink_in_form = λ t e. absurd (omega (arith, e));
+  complete = λ t yes form none. inl refl
+}
+answered told shown call Usage a = record {
+  statuses = inr (inl refl);
+  usage = λ e. a.0;
+  only_usage = λ no. refl;
+  done = λ t s e. absurd (omega (arith, e));
+  nothing = λ s e. a.1 s;
+  front = λ t s e. inl (a.1 s);
+  read = λ e. absurd (omega (arith, e));
+  not_yet = λ t e. absurd (omega (arith, e));
+  sink = λ e. absurd (omega (arith, e));
+  sink_in_form = λ t e. absurd (omega (arith, e));
+  complete = λ t yes form none. absurd (no_both call.words yes a.0)
+}
+answered told shown call (NotYet node) a = record {
+  statuses = inr (inr (inl refl));
+  usage = λ e. absurd (omega (arith, e));
+  only_usage = λ no. absurd (no_both call.words a.0 no);
+  done = λ t s e. absurd (omega (arith, e));
+  nothing = λ s e. a.2 s;
+  front = λ t s e. inl (a.2 s);
+  read = λ e. absurd (omega (arith, e));
+  not_yet = λ t e. (node, a.1 t);
+  sink = λ e. absurd (omega (arith, e));
+  sink_in_form = λ t e. absurd (omega (arith, e));
+  complete = λ t yes form none. absurd (not_both told call node form (a.1 t))
+}
+answered told shown call (Read node) a = record {
+  statuses = inr (inr (inr (inl refl)));
+  usage = λ e. absurd (omega (arith, e));
+  only_usage = λ no. absurd (no_both call.words a.0 no);
+  done = λ t s e. absurd (omega (arith, e));
+  nothing = λ s e. a.2 s;
+  front = λ t s e. inl (a.2 s);
+  read = λ e. (node, a.1);
+  not_yet = λ t e. absurd (omega (arith, e));
+  sink = λ e. absurd (omega (arith, e));
+  sink_in_form = λ t e. absurd (omega (arith, e));
+  complete = λ t yes form none. absurd (none.0 node a.1)
+}
+answered told shown call Memory a = record {
+  statuses = inr (inr (inr (inr (inl refl))));
+  usage = λ e. absurd (omega (arith, e));
+  only_usage = λ no. absurd (no_both call.words a.0 no);
+  done = λ t s e. absurd (omega (arith, e));
+  nothing = λ s e. absurd (⊎_elim (λ p. omega (arith, p)) (⊎_elim (λ p. omega (arith, p)) (λ p. omega (arith, p))) e);
+  front = λ t s e. ⊎_elim (λ p. inl p) (λ p. inr (p t)) (a.1 s);
+  read = λ e. absurd (omega (arith, e));
+  not_yet = λ t e. absurd (omega (arith, e));
+  sink = λ e. absurd (omega (arith, e));
+  sink_in_form = λ t e. absurd (omega (arith, e));
+  complete = λ t yes form none. inr refl
+}
+answered told shown call Sink a = record {
+  statuses = inr (inr (inr (inr (inr refl))));
+  usage = λ e. absurd (omega (arith, e));
+  only_usage = λ no. absurd (no_both call.words a.0 no);
+  done = λ t s e. absurd (omega (arith, e));
+  nothing = λ s e. absurd (⊎_elim (λ p. omega (arith, p)) (⊎_elim (λ p. omega (arith, p)) (λ p. omega (arith, p))) e);
+  front = λ t s e. inr (a.2 t s);
+  read = λ e. absurd (omega (arith, e));
+  not_yet = λ t e. absurd (omega (arith, e));
+  sink = λ e. a.1;
+  sink_in_form = λ t e. a.3 t;
+  complete = λ t yes form none. absurd (none.1 a.1)
+}
