@@ -1,5 +1,5 @@
 -- The output files: whole prints, in order, cut where a file has the rotation size.
-use Rattle.std.proofs.Common.{◌≡◌, ℕ, ◌+◌, ◌<◌, ◌≤◌, leb, Bool, true, false, if◌then◌else◌, List, [], ◌∷◌, ◌++◌, length, flat_map, length-append, append_assoc, append-nil, ap, sym, subst, refl, ◌∙◌, arith}
+use Rattle.std.proofs.Common.{◌≡◌, ℕ, ◌+◌, ◌≤◌, leb, Bool, true, false, if◌then◌else◌, List, [], ◌∷◌, ◌++◌, length, flat_map, append_assoc, append-nil, ap, sym, subst, refl, ◌∙◌, arith}
 use Rattle.std.proofs.lemmas.Bool.{leb-true, leb-false, lt-leb}
 use Rattle.std.proofs.lemmas.Grind.{flat_map-append}
 use Rattle.cdc_base.specs.declared.rename.Rename.{Rename}
@@ -7,6 +7,7 @@ use Rattle.cdc_model.specs.Records.{Transaction}
 use Rattle.cdc_model.specs.Print.{printed_bytes}
 use Rattle.cdc_model.specs.Output.{Output, no_output, output_after, output_with, file_head, file_begun, file_reached, file_with, rotate_event, open_file, files_in, closed_where_full, IsOutputFile, AreOutputFiles, AreFilesOf, FilesAreWhole, OneMoreIsOneStep}
 use Rattle.cdc_model.proofs.PrintLength.{file_more, file_begins}
+use Rattle.cdc_model.proofs.ClosedFiles.{FillNone, AreClosedFiles, not_before_last, still_unfilled, fill_nothing, some_with, closed_more, all_closed, last_open}
 
 -- ---- one step more
 
@@ -18,20 +19,7 @@ after_append rules rotation output (txn ∷ front) back = after_append rules rot
 pub one_more_is_one_step : OneMoreIsOneStep
 one_more_is_one_step rules rotation txns txn = after_append rules rotation no_output txns (txn ∷ [])
 
--- ---- files that are not full, and files that are
-
--- no front of some transactions fills a file
-abbrev FillNone : List Rename → ℕ → List Transaction → Type 0
-FillNone rules rotation txns =
-    (front back : List Transaction) → txns ≡ front ++ back → 1 ≤ length front → length (file_with rules front) < rotation
-
--- closed files have these lists of transactions
-abbrev AreClosedFiles : List Rename → ℕ → ℕ → List (List Transaction) → List (List ℕ) → Type 0
-AreClosedFiles rules rotation number [] [] = Unit {0}
-AreClosedFiles rules rotation number [] (file ∷ files) = ⊥
-AreClosedFiles rules rotation number (txns ∷ lists) [] = ⊥
-AreClosedFiles rules rotation number (txns ∷ lists) (file ∷ files) =
-    IsOutputFile rules rotation number txns file × (rotation ≤ length (file_with rules txns)) × AreClosedFiles rules rotation (number + 1) lists files
+-- ---- an output and its transactions
 
 -- the bytes of the open file, where it has transactions
 abbrev begun_bytes : List Rename → List Transaction → List ℕ
@@ -46,68 +34,6 @@ pub record StandsFor (rules : List Rename) (rotation : ℕ) (txns : List Transac
   pub full : AreClosedFiles rules rotation 1 lists output.closed
   pub bytes : output.current ≡ begun_bytes rules begun
   pub unfilled : FillNone rules rotation begun
-
--- a front of one transaction more, with something behind it, is a front already
-fewer_front : (txns : List Transaction) (txn : Transaction) (front back : List Transaction) → txns ++ txn ∷ [] ≡ front ++ back → 1 ≤ length back
-    → (rest : List Transaction) × (txns ≡ front ++ rest)
-fewer_front txns txn [] back is some = (txns, refl)
-fewer_front [] txn (first ∷ front) back is some =
-    let none : [] ≡ front ++ back = cc in
-    absurd (omega (arith, ap length none, length-append front back))
-fewer_front (other ∷ txns) txn (first ∷ front) back is some =
-    let same : other ≡ first = cc in
-    let behind : txns ++ txn ∷ [] ≡ front ++ back = cc in
-    let fewer = fewer_front txns txn front back behind some in
-    let rest : txns ≡ front ++ fewer.0 = fewer.1 in
-    (fewer.0, cc)
-
--- a list without its last transaction fills no file, so with it no shorter front does
-not_before_last : (rules : List Rename) (rotation : ℕ) (txns : List Transaction) (txn : Transaction) → FillNone rules rotation txns
-    → (front back : List Transaction) → txns ++ txn ∷ [] ≡ front ++ back → 1 ≤ length front → 1 ≤ length back
-    → length (file_with rules front) < rotation
-not_before_last rules rotation txns txn unfilled front back is some more =
-    let fewer = fewer_front txns txn front back is more in unfilled front fewer.0 fewer.1 some
-
-still_unfilled : (rules : List Rename) (rotation : ℕ) (txns : List Transaction) (txn : Transaction) → FillNone rules rotation txns
-    → length (file_with rules (txns ++ txn ∷ [])) < rotation → FillNone rules rotation (txns ++ txn ∷ [])
-still_unfilled rules rotation txns txn unfilled below front [] is some =
-    subst (λ (list : List Transaction). length (file_with rules list) < rotation) (is ∙ append-nil front) below
-still_unfilled rules rotation txns txn unfilled below front (first ∷ back) is some =
-    not_before_last rules rotation txns txn unfilled front (first ∷ back) is some (omega arith)
-
-some_with : (txns : List Transaction) (txn : Transaction) → 1 ≤ length (txns ++ txn ∷ [])
-some_with txns txn = omega (arith, length-append txns (txn ∷ []))
-
--- ---- one file more
-
-closed_more : (rules : List Rename) (rotation number : ℕ) (lists : List (List Transaction)) (files : List (List ℕ)) (txns : List Transaction) (file : List ℕ)
-    → AreClosedFiles rules rotation number lists files → IsOutputFile rules rotation (number + length files) txns file → rotation ≤ length (file_with rules txns)
-    → AreClosedFiles rules rotation number (lists ++ txns ∷ []) (files ++ file ∷ [])
-closed_more rules rotation number [] [] txns file all is full =
-    (subst (λ (n : ℕ). IsOutputFile rules rotation n txns file) (omega arith) is, full, tt)
-closed_more rules rotation number [] (first ∷ files) txns file all is full = absurd all
-closed_more rules rotation number (list ∷ lists) [] txns file all is full = absurd all
-closed_more rules rotation number (list ∷ lists) (first ∷ files) txns file all is full =
-    let behind : IsOutputFile rules rotation (number + 1 + length files) txns file =
-    subst (λ (n : ℕ). IsOutputFile rules rotation n txns file) (omega arith) is in
-    (all.0, all.1, closed_more rules rotation (number + 1) lists files txns file all.2 behind full)
-
-all_closed : (rules : List Rename) (rotation number : ℕ) (lists : List (List Transaction)) (files : List (List ℕ))
-    → AreClosedFiles rules rotation number lists files → AreOutputFiles rules rotation number lists files
-all_closed rules rotation number [] [] all = tt
-all_closed rules rotation number [] (file ∷ files) all = absurd all
-all_closed rules rotation number (txns ∷ lists) [] all = absurd all
-all_closed rules rotation number (txns ∷ lists) (file ∷ files) all =
-    (all.0, (λ more. all.1), all_closed rules rotation (number + 1) lists files all.2)
-
-last_open : (rules : List Rename) (rotation number : ℕ) (lists : List (List Transaction)) (files : List (List ℕ)) (txns : List Transaction) (file : List ℕ)
-    → AreClosedFiles rules rotation number lists files → ((n : ℕ) → IsOutputFile rules rotation n txns file)
-    → AreOutputFiles rules rotation number (lists ++ txns ∷ []) (files ++ file ∷ [])
-last_open rules rotation number [] [] txns file all is = (is number, (λ more. absurd (omega arith)), tt)
-last_open rules rotation number [] (first ∷ files) txns file all is = absurd all
-last_open rules rotation number (list ∷ lists) [] txns file all is = absurd all
-last_open rules rotation number (list ∷ lists) (first ∷ files) txns file all is =
-    (all.0, (λ more. all.1), last_open rules rotation (number + 1) lists files txns file all.2 is)
 
 -- ---- the bytes of the open file
 
@@ -158,10 +84,6 @@ rotated rotation number next file full is =
 not_rotated : (rotation number : ℕ) (file : List ℕ) → leb rotation (length file) ≡ false → file ≡ closed_where_full rotation number file
 not_rotated rotation number file unfilled =
     sym (ap (λ (b : Bool). if b then file ++ rotate_event (length file) (number + 1) else file) unfilled)
-
-fill_nothing : (rules : List Rename) (rotation : ℕ) → FillNone rules rotation []
-fill_nothing rules rotation [] back is some = absurd (omega arith)
-fill_nothing rules rotation (txn ∷ front) back is some = absurd (cc)
 
 -- the output that a file reaches, by whether it has the rotation size
 abbrev reached_by : Bool → List (List ℕ) → List ℕ → Output

@@ -8,7 +8,8 @@ mod SoundFront
 mod LogPrefix
 mod KeyList
 mod SettledKeys
-mod Order
+mod GlobalOrder
 mod OrderCut
 mod PrintLength
+mod ClosedFiles
 mod Files

@@ -1,6 +1,6 @@
 -- Entries' numbers, and the high-water and low-water marks.
-use Rattle.std.proofs.Common.{◌≡◌, ℕ, ◌≤◌, min, max, Bool, true, false, leb, ◌⊎◌, inl, inr, List, [], ◌∷◌, map, Contains, All, refl, subst, le_refl, arith}
-use Rattle.std.proofs.lemmas.Bool.{leb-true, leb-false}
+use Rattle.std.proofs.Common.{ℕ, ◌≤◌, min, max, inl, inr, List, [], ◌∷◌, map, Contains, All, subst, le_refl, arith}
+use Rattle.std.proofs.lemmas.Bool.{cases_lt}
 use Rattle.std.proofs.lemmas.List.Elements.{All-nil, All-cons, All-head, All-tail, All-weaker}
 use Rattle.cdc_model.specs.Start.{stamp}
 use Rattle.cdc_model.specs.Watermark.{least, high_water_mark, IsLeast, IsGreatest, NumbersCount, MarkIsGreatest, NodeMarkIsLeast, MarkIsLeast}
@@ -9,13 +9,6 @@ use Rattle.cdc_model.proofs.Members.{contains_first, contains_later, contains_ca
 pub numbers_count : NumbersCount
 numbers_count start [] = omega arith
 numbers_count start (entry ∷ earlier) = omega (arith, numbers_count start earlier)
-
-side_by : (a b : ℕ) (test : Bool) → leb a b ≡ test → (a ≤ b) ⊎ (b ≤ a)
-side_by a b true is = inl (leb-true a b is)
-side_by a b false is = inr (let above = leb-false a b is in omega arith)
-
-side : (a b : ℕ) → (a ≤ b) ⊎ (b ≤ a)
-side a b = side_by a b (leb a b) refl
 
 -- ---- the greatest
 
@@ -35,7 +28,7 @@ contains_second mark first stamp stamps within =
 
 greatest_reached : (mark first stamp : ℕ) (stamps : List ℕ) → Contains (first ∷ stamps) mark → Contains (first ∷ stamp ∷ stamps) (max stamp mark)
 greatest_reached mark first stamp stamps within =
-    elim (side stamp mark) [
+    elim (cases_lt stamp mark) [
       | inl below ↦ subst (λ n. Contains (first ∷ stamp ∷ stamps) n) (omega arith) (contains_second mark first stamp stamps within)
       | inr above ↦ subst (λ n. Contains (first ∷ stamp ∷ stamps) n) (omega arith) (contains_later first (stamp ∷ stamps) stamp (contains_first stamp stamps))
     ]
@@ -69,7 +62,7 @@ contains_min : (least a b : ℕ) (numbers : List ℕ) → Contains (min a b ∷ 
 contains_min least a b numbers within =
     elim (contains_cases (min a b) numbers least within) [
       | inl is ↦
-          elim (side a b) [
+          elim (cases_lt a b) [
             | inl below ↦ subst (λ n. Contains (a ∷ b ∷ numbers) n) (omega arith) (contains_first a (b ∷ numbers))
             | inr above ↦ subst (λ n. Contains (a ∷ b ∷ numbers) n) (omega arith) (contains_later a (b ∷ numbers) b (contains_first b numbers))
           ]

@@ -11,7 +11,7 @@ use Rattle.cdc_model.specs.Print.{printed_length}
 use Rattle.cdc_model.specs.Transaction.{IsBelow, AreTransactionsOf, numbers_from, ordered_transactions, logs_low_water_mark, all_branches, is_oversized, SettledIsExact, SettledFit}
 use Rattle.cdc_model.proofs.Members.{contains_first, contains_later, contains_none, contains_cases}
 use Rattle.cdc_model.proofs.KeyList.{IsBelowAll, not_below_itself, not_both_below, below_member}
-use Rattle.cdc_model.proofs.Order.{keys_in, order_is_exact}
+use Rattle.cdc_model.proofs.GlobalOrder.{keys_in, order_is_exact}
 
 -- ---- a list before its first element that passes a test
 
@@ -142,6 +142,7 @@ cut_order test count mark branches txns all = record {
         ((all.exact key).1 record { settled = settled.settled; present = settled.present; below = tt }, settled.below),
   );
   whole = λ txn within. all.whole txn (contains_taken (position_or_len test txns) txns txn within);
+  dated = λ txn within. all.dated txn (contains_taken (position_or_len test txns) txns txn within);
   numbered = numbered_taken (position_or_len test txns) (count + 1) txns all.numbered;
 }
 

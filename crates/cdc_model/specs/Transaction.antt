@@ -115,11 +115,13 @@ pub record IsSettledKey (mark : ℕ) (branches : List CommittedBranch) (end : Op
   pub below : IsBelow end key
 
 -- what the global order means: keys strictly ascend, and are exactly the settled keys of the branches; each
--- transaction has all branches of its key, in their order; numbers go on behind the count
+-- transaction has all branches of its key, in their order, and the first one's seconds; numbers go on behind the
+-- count
 pub record AreTransactionsOf (count mark : ℕ) (branches : List CommittedBranch) (end : Option Transaction) (txns : List Transaction) : Type 0 where
   pub ascending : IsStrictlySortedBy key_order (map (λ (txn : Transaction). txn.key) txns)
   pub exact : (key : Key) → Contains (map (λ (txn : Transaction). txn.key) txns) key ↔ IsSettledKey mark branches end key
   pub whole : (txn : Transaction) → Contains txns txn → txn.branches ≡ filter (has_key txn.key) branches
+  pub dated : (txn : Transaction) → Contains txns txn → txn.seconds ≡ first_seconds txn.branches
   pub numbered : map (λ (txn : Transaction). txn.number) txns ≡ numbers_from (count + 1) (length txns)
 
 -- law: the ordered transactions are those of all settled keys

@@ -4,7 +4,7 @@ use Rattle.std.specs.List.Sorted.{IsStrictlySortedBy}
 use Rattle.cdc_base.specs.declared.key.Key.{Key}
 use Rattle.cdc_base.specs.Key.{key_order}
 use Rattle.cdc_model.specs.Records.{CommittedBranch, Transaction}
-use Rattle.cdc_model.specs.Transaction.{settled_keys, has_key, transaction_of, transactions_of, numbers_from, IsSettledKey, AreTransactionsOf, logs_low_water_mark, all_branches, OrderIsExact}
+use Rattle.cdc_model.specs.Transaction.{settled_keys, has_key, first_seconds, transaction_of, transactions_of, numbers_from, IsSettledKey, AreTransactionsOf, logs_low_water_mark, all_branches, OrderIsExact}
 use Rattle.cdc_model.proofs.Members.{contains_none, contains_cases}
 use Rattle.cdc_model.proofs.SettledKeys.{settled_sorted, in_settled}
 
@@ -21,17 +21,14 @@ numbered : (branches : List CommittedBranch) (number : ℕ) (keys : List Key)
 numbered branches number [] = refl
 numbered branches number (key ∷ keys) = ap (λ (rest : List ℕ). number ∷ rest) (numbered branches (number + 1) keys)
 
--- a transaction has all branches of its key
-abbrev IsWhole : List CommittedBranch → Transaction → Type 0
-IsWhole branches txn = txn.branches ≡ filter (has_key txn.key) branches
-
-whole : (branches : List CommittedBranch) (number : ℕ) (keys : List Key) (txn : Transaction)
-    → Contains (transactions_of branches number keys) txn → IsWhole branches txn
-whole branches number [] txn within = absurd (contains_none txn within)
-whole branches number (key ∷ keys) txn within =
+-- what is true of each transaction made is true of each in the list
+each_made : (P : Transaction → Type 0) (branches : List CommittedBranch) → ((number : ℕ) (key : Key) → P (transaction_of branches number key))
+    → (number : ℕ) (keys : List Key) (txn : Transaction) → Contains (transactions_of branches number keys) txn → P txn
+each_made P branches made number [] txn within = absurd (contains_none txn within)
+each_made P branches made number (key ∷ keys) txn within =
     elim (contains_cases (transaction_of branches number key) (transactions_of branches (number + 1) keys) txn within) [
-      | inl is ↦ subst (IsWhole branches) is refl
-      | inr later ↦ whole branches (number + 1) keys txn later
+      | inl is ↦ subst P is (made number key)
+      | inr later ↦ each_made P branches made (number + 1) keys txn later
     ]
 
 exact : (mark : ℕ) (branches : List CommittedBranch) (number : ℕ) (key : Key)
@@ -48,7 +45,12 @@ pub ordered : (count mark : ℕ) (branches : List CommittedBranch)
 ordered count mark branches = record {
   ascending = subst (IsStrictlySortedBy key_order) (sym (keys_kept branches (count + 1) (settled_keys mark branches))) (settled_sorted mark branches);
   exact = exact mark branches (count + 1);
-  whole = whole branches (count + 1) (settled_keys mark branches);
+  whole =
+      each_made (λ txn. txn.branches ≡ filter (has_key txn.key) branches) branches (λ number key. refl) (count + 1)
+      (settled_keys mark branches);
+  dated =
+      each_made (λ txn. txn.seconds ≡ first_seconds txn.branches) branches (λ number key. refl) (count + 1)
+      (settled_keys mark branches);
   numbered = numbered branches (count + 1) (settled_keys mark branches);
 }
 

@@ -1,0 +1,11 @@
+mod Bodies
+mod Marks
+mod Colons
+mod Laid
+mod PrintedRows
+mod StatementsOnce
+mod Queries
+mod Cases
+mod Counted
+mod HeadBytes
+mod Short

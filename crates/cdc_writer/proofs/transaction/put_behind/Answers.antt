@@ -1,0 +1,11 @@
+use Rattle.cdc_writer.proofs.Laid.{on_ok, three_laid}
+use Rattle.cdc_writer.proofs.transaction.put_behind.Goals as goal
+
+pub returns-clause-ok : goal.returns-clause-ok
+returns-clause-ok c =
+    let rows = rw c.as_slice-branches.ensures at c.in_ok-end.ensures.ok in
+    let next = rw c.as_slice-branches.ensures at c.in_ok-end.ensures.next in
+    rw (← c.txn.view_is)
+    (on_ok _ (three_laid _ _ _ _ _ _ _ _ _ _ _
+      c.in_ok-rows.ensures.ok c.in_ok-rows.ensures.next rows next)
+    c.put_xid.ensures.ok)

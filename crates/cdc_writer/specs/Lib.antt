@@ -1,0 +1,5 @@
+pub mod Events
+pub mod Statements
+pub mod Parts
+pub mod Refusal
+pub mod Short

@@ -1,0 +1,116 @@
+//! The length of a transaction's print, counted up to 2^64 - 1.
+
+ghost use Rattle.std.specs.Prelude.{◌≡◌, ◌+◌, ◌-◌, ◌^◌, min};
+ghost use Rattle.cdc_model.specs.Print.{row_events, without_statement, printed_length};
+ghost use Rattle.cdc_writer.specs.Events.{events_length, renamed_rows};
+ghost use Rattle.cdc_writer.specs.Statements.{branch_events, statement_events, all_statement_events};
+ghost use Rattle.cdc_writer.specs.Parts.{alone_events, marked_events, behind_events};
+
+use crate::mark::mark_length;
+use crate::statement::{is_among, some_rows, some_statement, statement_of};
+use cdc_event::{Body, HEADER_LENGTH};
+use cdc_model::{Branch, Txn};
+use cdc_rename::{Names, renamed_length};
+
+/// The bytes of BEGIN and XID.
+const FRAME_LENGTH: u64 = 65;
+
+/// The bytes of a statement's event beside its database and its text.
+const STATEMENT_LENGTH: u64 = 33;
+
+fn rows_length(rows: &[(u8, Body)], names: &Names) -> u64
+    ensures { result ≡ min (events_length (renamed_rows names.now rows.now)) (2 ^ 64 - 1) }
+{
+    let mut total: u64 = 0;
+    for (_, body) in rows {
+        total = total
+            .saturating_add(HEADER_LENGTH as u64)
+            .saturating_add(renamed_length(body, names));
+    }
+    total
+}
+
+fn branch_length(branch: &Branch, names: &Names) -> u64
+    ensures { result ≡ min (events_length (branch_events names.now branch.now)) (2 ^ 64 - 1) }
+{
+    let rows = branch.rows.as_slice();
+    match statement_of(rows) {
+        Some(_) => 0,
+        None => rows_length(rows, names),
+    }
+}
+
+// The rows of all branches without a statement.
+fn branches_length(branches: &[Branch], names: &Names) -> u64
+    ensures { result ≡ min (events_length (row_events names.now (without_statement branches.now))) (2 ^ 64 - 1) }
+{
+    let mut total: u64 = 0;
+    for branch in branches {
+        total = total.saturating_add(branch_length(branch, names));
+    }
+    total
+}
+
+// A branch's statement, unless a branch before it has it too.
+fn statement_length(before: &[Branch], branch: &Branch) -> u64
+    ensures { result ≡ min (events_length (statement_events before.now branch.now)) (2 ^ 64 - 1) }
+{
+    let Some(statement) = statement_of(branch.rows.as_slice()) else {
+        return 0;
+    };
+    if is_among(before, &statement) {
+        return 0;
+    }
+    STATEMENT_LENGTH
+        .saturating_add(statement.database.len() as u64)
+        .saturating_add(statement.text.len() as u64)
+}
+
+// The branches' statements, each statement once.
+fn statements_length(branches: &[Branch]) -> u64
+    ensures { result ≡ min (events_length (all_statement_events branches.now)) (2 ^ 64 - 1) }
+{
+    let mut total: u64 = 0;
+    for (index, branch) in branches.iter().enumerate() {
+        let (before, _) = branches.split_at(index);
+        total = total.saturating_add(statement_length(before, branch));
+    }
+    total
+}
+
+fn alone_length(txn: &Txn, names: &Names) -> u64
+    ensures { result ≡ min (events_length (alone_events names.now txn.now)) (2 ^ 64 - 1) }
+{
+    branches_length(txn.branches.as_slice(), names)
+        .saturating_add(FRAME_LENGTH + mark_length(&txn.key))
+}
+
+fn marked_length(txn: &Txn) -> u64
+    ensures { result ≡ min (events_length (marked_events txn.now)) (2 ^ 64 - 1) }
+{
+    statements_length(txn.branches.as_slice()).saturating_add(mark_length(&txn.key))
+}
+
+fn behind_length(txn: &Txn, names: &Names) -> u64
+    ensures { result ≡ min (events_length (behind_events names.now txn.now)) (2 ^ 64 - 1) }
+{
+    branches_length(txn.branches.as_slice(), names).saturating_add(FRAME_LENGTH)
+}
+
+/// How many bytes a transaction's print has, wherever it stands; 2^64 - 1 where there are more than that.
+/// Takes no memory. Its time is that of the rows, and where branches have statements that of each pair of
+/// branches.
+pub fn print_length(txn: &Txn, names: &Names) -> u64
+    ensures { result ≡ min (printed_length names.now txn.now) (2 ^ 64 - 1) }
+{
+    let branches = txn.branches.as_slice();
+    if !some_statement(branches) {
+        return alone_length(txn, names);
+    }
+    let marked = marked_length(txn);
+    if some_rows(branches) {
+        marked.saturating_add(behind_length(txn, names))
+    } else {
+        marked
+    }
+}

@@ -1,0 +1,51 @@
+//! What the tests read.
+
+ghost use Rattle.std.specs.Prelude.{◌≡◌, length, IfOk};
+ghost use Rattle.cdc_memory.specs.Source.{files_of, pure_files_of};
+
+use cdc_base::{Blob, Buffer, Memory};
+use cdc_memory::{MemSource, PureSource};
+use cdc_outside::{Failed, Source};
+use std::alloc::Global;
+
+/// So many bytes: 0, 1, .. 250, and again from 0.
+pub fn pattern(alloc: Global, bytes: u32) -> Result<Blob, Memory>
+    ensures { IfOk result (λ blob. length blob ≡ bytes) }
+{
+    let mut text = Buffer::with_room(alloc, bytes as usize)?;
+    for place in 0..bytes {
+        text.push(&[(place % 251) as u8])?;
+    }
+    Ok(text.freeze()?)
+}
+
+/// A source of one file of so many bytes, whose listed calls fail.
+pub fn one_file(alloc: Global, bytes: u32, fails: &[u64]) -> Result<MemSource, Memory>
+    ensures { IfOk result (λ source. length (files_of source) ≡ 1) }
+{
+    let file = pattern(alloc, bytes)?;
+    MemSource::new(alloc, &[file], fails)
+}
+
+/// A source of two files that never fails.
+pub fn two_files(alloc: Global, first: u32, second: u32) -> Result<PureSource, Memory>
+    ensures { IfOk result (λ source. length (pure_files_of source) ≡ 2) }
+{
+    let first = pattern(alloc, first)?;
+    let second = pattern(alloc, second)?;
+    PureSource::new(alloc, &[first, second])
+}
+
+/// Reads from a file that the source has.
+pub fn ask<S: Source>(
+    source: &mut S,
+    file: u32,
+    at: u64,
+    into: &mut [u8],
+) -> Result<usize, Failed> {
+    let files = source.files()?;
+    if file == 0 || files < file {
+        return Err(Failed);
+    }
+    source.read_at(file, at, into)
+}

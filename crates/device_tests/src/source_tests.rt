@@ -1,0 +1,104 @@
+//! Sources in memory.
+
+ghost use Rattle.std.specs.Prelude.{◌≡◌, ◌≤◌, length};
+ghost use Rattle.cdc_memory.specs.Source.{files_of};
+
+use crate::pattern::{ask, one_file, two_files};
+use cdc_base::Place;
+use cdc_memory::MemSource;
+use cdc_outside::Source;
+use std::alloc::Global;
+use std::test::Fail;
+
+// Whether a read from files of 3 and 10 bytes gives these bytes, and its place is the lowest.
+fn gives(alloc: Global, place: Place, room: usize, want: &[u8]) -> Result<bool, Fail> {
+    let mut source = two_files(alloc, 3, 10)?;
+    let mut into = [255u8; 4];
+    let room = room.min(4);
+    let read = ask(&mut source, place.file, place.at, &mut into[..room])?;
+    let same = match into.get(..read) {
+        Some(bytes) => bytes == want,
+        None => false,
+    };
+    Ok(same && source.lowest() == Some(place))
+}
+
+#[test]
+fn reads_give_what_the_file_still_has(rt: HostRuntime) -> Result<(), Fail> {
+    let cases: [(u32, u64, usize, &[u8]); 8] = [
+        (1, 0, 4, &[0, 1, 2]),
+        (1, 3, 4, &[]),
+        (2, 0, 4, &[0, 1, 2, 3]),
+        (2, 8, 4, &[8, 9]),
+        (2, 9, 1, &[9]),
+        (2, 10, 4, &[]),
+        (2, 11, 4, &[]),
+        (2, 3, 0, &[]),
+    ];
+    for (file, at, room, want) in cases {
+        let good = gives(rt.alloc(), Place { file, at }, room, want)?;
+        assert!(rt; good, "file {file} at {at}");
+    }
+    Ok(())
+}
+
+// The least place that two reads, one after the other, ask for.
+fn lowest_of_two(alloc: Global, first: Place, second: Place) -> Result<Option<Place>, Fail> {
+    let mut source = two_files(alloc, 3, 10)?;
+    let _read = ask(&mut source, first.file, first.at, &mut [0u8; 4])?;
+    let _read = ask(&mut source, second.file, second.at, &mut [0u8; 4])?;
+    Ok(source.lowest())
+}
+
+#[test]
+fn lowest_is_the_least_place_asked_for(rt: HostRuntime) -> Result<(), Fail> {
+    let places = [(1, 8), (1, 9), (2, 0), (2, 3)];
+    for (i, (file, at)) in places.iter().enumerate() {
+        for (j, (other_file, other_at)) in places.iter().enumerate() {
+            let place = Place {
+                file: *file,
+                at: *at,
+            };
+            let other = Place {
+                file: *other_file,
+                at: *other_at,
+            };
+            let want = if i < j { place } else { other };
+            let lowest = lowest_of_two(rt.alloc(), place, other)?;
+            assert!(rt; lowest == Some(want), "{i} then {j}");
+        }
+    }
+    Ok(())
+}
+
+// Whether a call of the first file succeeds: of `files`, `length` or `read_at`.
+fn succeeds(source: &mut MemSource, which: u8) -> bool
+    requires { 1 ≤ length (files_of source.old) }
+    ensures { files_of source.new ≡ files_of source.old }
+{
+    match which {
+        0 => source.files().is_ok(),
+        1 => source.length(1).is_ok(),
+        _ => source.read_at(1, 2, &mut [0u8; 9]).is_ok(),
+    }
+}
+
+// Whether the second of three calls fails, and no other, and is counted.
+fn second_fails(alloc: Global, first: u8, second: u8) -> Result<bool, Fail> {
+    let mut source = one_file(alloc, 5, &[7, 2])?;
+    let before = succeeds(&mut source, first);
+    let listed = succeeds(&mut source, second);
+    let after = succeeds(&mut source, second);
+    Ok(before && !listed && after && source.faults() == 1)
+}
+
+#[test]
+fn a_listed_call_fails_and_no_other(rt: HostRuntime) -> Result<(), Fail> {
+    for first in 0..3u8 {
+        for second in 0..3u8 {
+            let good = second_fails(rt.alloc(), first, second)?;
+            assert!(rt; good, "call {first}, then {second}");
+        }
+    }
+    Ok(())
+}
