@@ -1,5 +1,8 @@
 //! Whole events of the format: read, shared and written back to the same bytes.
 
+ghost use Rattle.std.specs.Prelude.{IfOk};
+ghost use Rattle.cdc_event.specs.Event.{IsEvent};
+
 use crate::shown::{blob, from_hex};
 use cdc_base::{Blob, Buffer};
 use cdc_event::{Event, check_length, read_body, read_header, write_event};
@@ -20,7 +23,9 @@ const EVENTS: &str =
 05000000260900000022000000000000000000000100000002000000000000006731
 05000000c8090000001c000000000000000000010a00000000000000";
 
-fn read(bytes: &Blob) -> Result<Event, Fail> {
+fn read(bytes: &Blob) -> Result<Event, Fail>
+    ensures { IfOk result IsEvent }
+{
     let Some(front) = bytes.bytes().first_chunk::<19>() else {
         return Err("no header")?;
     };
@@ -30,7 +35,8 @@ fn read(bytes: &Blob) -> Result<Event, Fail> {
         return Err("another length")?;
     }
     let body = bytes.part(19, bytes.len())?;
-    Ok(read_body(&header, &body, 0)?)
+    let event = read_body(&header, &body, 0)?;
+    Ok(event)
 }
 
 fn check_event(rt: &impl Abort, alloc: Global, bytes: &[u8]) -> Result<(), Fail> {
