@@ -31,6 +31,8 @@ fn part(body: &Blob, end: usize, from: usize, to: usize) -> Result<Blob, Memory>
     body.part(from, to)
 }
 
+// Thread 0..4, seconds 4..8, length of the database's name 8, error 9..11, length of the status variables
+// 11..13; then the status variables, the name, a zero byte, and the text to the end.
 #[tactic(auto, unfolding(crate::specs::Reading::query_at, crate::specs::Reading::guard))]
 fn read_query(body: &Blob, end: usize) -> Result<Option<Body>, Memory>
     requires { end ≤ length body.now }
@@ -56,6 +58,7 @@ fn read_query(body: &Blob, end: usize) -> Result<Option<Body>, Memory>
     }))
 }
 
+// Position 0..8, and the file's name to the end.
 #[tactic(auto, unfolding(crate::specs::Reading::rotate_at, crate::specs::Reading::guard))]
 fn read_rotate(body: &Blob, end: usize) -> Result<Option<Body>, Memory>
     requires { end ≤ length body.now }
@@ -72,6 +75,8 @@ fn read_rotate(body: &Blob, end: usize) -> Result<Option<Body>, Memory>
     }))
 }
 
+// Version 0..2, text 2..52, creation time 52..56, length of a header 56; then the list of lengths, and at the
+// end the checksum algorithm and four bytes.
 #[tactic(auto, unfolding(crate::specs::Reading::format_at, crate::specs::Reading::guard))]
 fn read_format(body: &Blob, end: usize) -> Result<Option<Body>, Memory>
     requires { end ≤ length body.now }
@@ -98,6 +103,7 @@ fn read_format(body: &Blob, end: usize) -> Result<Option<Body>, Memory>
     }))
 }
 
+// The transaction's number, 8 bytes.
 #[tactic(auto, unfolding(crate::specs::Reading::xid_at, crate::specs::Reading::guard))]
 fn read_xid(bytes: &[u8]) -> Option<Body>
     ensures { result ≡ xid_at bytes.now }
@@ -110,6 +116,7 @@ fn read_xid(bytes: &[u8]) -> Option<Body>
     })
 }
 
+// A byte that readers ignore, and the text to the end.
 #[tactic(auto, unfolding(crate::specs::Reading::rows_query_at, crate::specs::Reading::guard))]
 fn read_rows_query(body: &Blob, end: usize) -> Result<Option<Body>, Memory>
     requires { end ≤ length body.now }
@@ -126,6 +133,8 @@ fn read_rows_query(body: &Blob, end: usize) -> Result<Option<Body>, Memory>
     }))
 }
 
+// The table's number 0..6, flags 6..8, length of the database's name 8; then the name, a zero byte, the length
+// of the table's name, the name, a zero byte, and the rest to the end.
 #[tactic(auto, unfolding(crate::specs::Reading::table_map_at, crate::specs::Reading::guard))]
 fn read_table_map(body: &Blob, end: usize) -> Result<Option<Body>, Memory>
     requires { end ≤ length body.now }
@@ -154,6 +163,7 @@ fn read_table_map(body: &Blob, end: usize) -> Result<Option<Body>, Memory>
     }))
 }
 
+// one_phase 0, format 1..5, both ids' lengths 5..9 and 9..13; then the ids, and nothing behind them.
 #[tactic(auto, unfolding(crate::specs::Reading::prepare_at, crate::specs::Reading::guard))]
 fn read_prepare(bytes: &[u8]) -> Option<Body>
     ensures { result ≡ prepare_at bytes.now }
@@ -177,6 +187,7 @@ fn read_prepare(bytes: &[u8]) -> Option<Body>
     })
 }
 
+// Class 0, value 1..9.
 #[tactic(auto, unfolding(crate::specs::Reading::timestamp_at, crate::specs::Reading::guard))]
 fn read_timestamp(bytes: &[u8]) -> Option<Body>
     ensures { result ≡ timestamp_at bytes.now }
@@ -198,6 +209,7 @@ fn front(body: &Blob, end: usize) -> Result<Blob, Memory>
     body.part(0, end)
 }
 
+// The body of the first `end` bytes, by the event's type; none where they don't fit its layout.
 #[tactic(auto, unfolding(crate::specs::Reading::body_at))]
 fn read_kind(kind: u8, body: &Blob, end: usize) -> Result<Option<Body>, Memory>
     requires { end ≤ length body.now }
@@ -223,6 +235,7 @@ fn read_kind(kind: u8, body: &Blob, end: usize) -> Result<Option<Body>, Memory>
     }
 }
 
+// What is wrong where a body is none of its type.
 fn fault_of(kind: u8) -> EventFault
     ensures { result ≡ specs_fault_of kind }
 {
@@ -255,6 +268,7 @@ fn shortened(header: Header, less: u32) -> Header
     }
 }
 
+// The event without its checksum.
 #[tactic(auto, using(crate::proofs::Kept::kept_is_front))]
 fn read_kept(header: &Header, body: &Blob, checksum: u8) -> Result<Event, ReadError>
     requires length { HasGoodLength checksum header.now }
