@@ -1,6 +1,8 @@
 //! A sink over a stream of the system.
 
-ghost use Rattle.std.specs.Prelude.{◌≡◌, false, []};
+ghost use Rattle.std.specs.Prelude.{◌≡◌, false, [], OnOk};
+ghost use Rattle.std.specs.Io.KnownBytes.{Appends};
+ghost use Rattle.cdc_outside.specs.Count.{RisesOnErr};
 
 use crate::counted::counted;
 use cdc_outside::{Failed, Sink};
@@ -31,20 +33,28 @@ impl<W: Write + Drop> StdSink<W> {
 }
 
 impl<W: Write + Drop> Sink for StdSink<W> {
+    ghost use Rattle.cdc_files.specs.Stream.{stream_of, faults_of};
+
     ghost tells = { false };
 
     ghost written = { λ _. [] };
 
     ghost faults = { λ sink. sink.faults };
 
-    fn write(&mut self, bytes: &[u8]) -> Result<(), Failed> {
+    fn write(&mut self, bytes: &[u8]) -> Result<(), Failed>
+        // Where it is known what the stream holds, as of one in memory, it holds the bytes then.
+        ensures through { OnOk result (Appends (W.contents (stream_of self.old)) (W.contents (stream_of self.new)) bytes.now) }
+        ensures faults { RisesOnErr (faults_of self.old) (faults_of self.new) result }
+    {
         let done = write_through(&mut self.out, bytes).ok();
         counted(done, &mut self.faults)
     }
 }
 
 /// Writes all bytes, and holds none of them back.
-fn write_through<W: Write>(out: &mut W, bytes: &[u8]) -> io::Result<()> {
+fn write_through<W: Write>(out: &mut W, bytes: &[u8]) -> io::Result<()>
+    ensures { OnOk result (Appends (W.contents out.old) (W.contents out.new) bytes.now) }
+{
     out.write_all(bytes)?;
     out.flush()
 }
@@ -57,6 +67,10 @@ pub enum StdStream<O, E> {
 }
 
 impl<O: Write, E: Write> Write for StdStream<O, E> {
+    ghost use Rattle.cdc_files.specs.Stream.{either_contents};
+
+    ghost contents = { either_contents O.contents E.contents };
+
     fn write(&mut self, bytes: &[u8]) -> io::Result<usize> {
         match self {
             StdStream::Out(out) => out.write(bytes),

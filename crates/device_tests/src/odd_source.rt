@@ -1,6 +1,6 @@
 //! A source that tells another length than it has, and reads in small pieces.
 
-ghost use Rattle.std.specs.Prelude.{◌≡◌, ◌≤◌, ◌^◌, false, [], ◌∷◌};
+ghost use Rattle.std.specs.Prelude.{◌≡◌, ◌≤◌, ◌^◌, false, [], ◌∷◌, sum};
 
 use cdc_base::{Blob, Place};
 use cdc_outside::{Failed, Source, lowest_place};
@@ -15,7 +15,7 @@ pub struct OddSource {
     /// The end of the bytes that were asked for.
     asked: u64,
     lowest: Option<Place>,
-    ghost within: { told ≤ 2 ^ 54 },
+    ghost within: { sum (told ∷ []) ≤ 2 ^ 54 },
 }
 
 impl OddSource {
