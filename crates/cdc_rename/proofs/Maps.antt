@@ -1,12 +1,12 @@
 -- Table maps under other names.
-use Rattle.std.proofs.Common.{◌≡◌, ℕ, zero, suc, ◌+◌, ◌/◌, ◌<◌, ◌≤◌, List, ◌++◌, ◌∷◌, length, Option, Some, None, IfSome, refl, ap, ◌∙◌, arith, length-append}
+use Rattle.std.proofs.Common.{◌≡◌, ℕ, zero, suc, ◌+◌, ◌/◌, ◌≤◌, List, length, Some, refl, ap, ◌∙◌, arith, length-append}
 use Rattle.cdc_base.specs.declared.rename.Rename.{Rename}
 use Rattle.cdc_event.specs.declared.body.Body.{Body}
 use Rattle.cdc_event.specs.declared.body.Body.TheVariants.{TableMap}
 use Rattle.cdc_event.specs.Number.{low_first}
-use Rattle.cdc_event.specs.Event.{body_bytes, FitsBody, has_kind}
+use Rattle.cdc_event.specs.Event.{body_bytes, FitsBody}
 use Rattle.cdc_event.specs.Table.{map_renamed, renamed, rule_for}
-use Rattle.cdc_rename.specs.Names.{IsRule, KeepsRow}
+use Rattle.cdc_rename.specs.Names.{KeepsRow}
 
 pub keeps_same : (body : Body) → KeepsRow body body
 keeps_same body = record { fits = λ h. h; kind = λ k. refl; size = omega arith }

@@ -1,5 +1,5 @@
 -- Lists in strict order of a key: what a search finds in one, and what an insertion leaves.
-use Rattle.std.proofs.Common.{◌≡◌, ℕ, zero, suc, ◌+◌, ◌<◌, ◌≤◌, Bool, true, false, cond, List, [], ◌∷◌, length, get_or, map, Option, Some, None, refl, sym, ◌∙◌, ap, arith, add-one}
+use Rattle.std.proofs.Common.{◌≡◌, ℕ, zero, suc, ◌<◌, ◌≤◌, Bool, true, false, cond, List, [], ◌∷◌, length, get_or, map, Some, None, refl, sym, ◌∙◌, ap, arith, add-one}
 use Rattle.std.specs.List.{find, insert, AllByRecursion}
 use Rattle.std.specs.List.Sorted.{IsStrictlySortedBy, IsSortedBy}
 use Rattle.std.specs.Ordering.{is_eq, is_lt, ordering_reverse}
@@ -84,18 +84,17 @@ module _ {X K : Type 0} (key : X → K) where
 
     -- a new element between lesser and greater keys keeps the order
     pub sorted_insert : (xs : List X) (i : ℕ) (x : X) → IsStrictlySortedBy R (map key xs) → i ≤ length xs
-      → ((k : ℕ) (d : X) → k < i → R (key (get_or xs k d)) (key x) ≡ Less)
-      → ((k : ℕ) (d : X) → i ≤ k → k < length xs → R (key (get_or xs k d)) (key x) ≡ Greater)
-      → IsStrictlySortedBy R (map key (insert xs i x))
+        → ((k : ℕ) (d : X) → k < i → R (key (get_or xs k d)) (key x) ≡ Less)
+        → ((k : ℕ) (d : X) → i ≤ k → k < length xs → R (key (get_or xs k d)) (key x) ≡ Greater)
+        → IsStrictlySortedBy R (map key (insert xs i x))
     unfolding IsStrictlySortedBy
     sorted_insert xs zero x sorted within lesser greater =
         (all_keys (λ k. R (key x) k ≡ Less) xs (λ k d lt. o.antisymm _ _ ∙ ap ordering_reverse (greater k d (omega arith) lt)), sorted)
     sorted_insert [] (suc i) x sorted within lesser greater = absurd (omega arith)
-    sorted_insert (y ∷ ys) (suc i) x sorted within lesser greater =
-        (
-          all_keys_insert (λ k. R (key y) k ≡ Less) ys i x sorted.0 (lesser 0 y (omega arith)),
-          sorted_insert ys i x sorted.1 (omega arith) (λ k d lt. lesser (suc k) d (omega arith)) (λ k d le lt. greater (suc k) d (omega arith) (omega arith))
-        )
+    sorted_insert (y ∷ ys) (suc i) x sorted within lesser greater = (
+      all_keys_insert (λ k. R (key y) k ≡ Less) ys i x sorted.0 (lesser 0 y (omega arith)),
+      sorted_insert ys i x sorted.1 (omega arith) (λ k d lt. lesser (suc k) d (omega arith)) (λ k d le lt. greater (suc k) d (omega arith) (omega arith)),
+    )
 
     -- neighbours rise
     next_above : (xs : List X) → IsStrictlySortedBy R (map key xs) → (k : ℕ) (d : X) → suc k < length xs → R (key (get_or xs k d)) (key (get_or xs (suc k) d)) ≡ Less

@@ -1,5 +1,5 @@
 -- Renaming rules in order: what a search finds, and what one rule more changes.
-use Rattle.std.proofs.Common.{◌≡◌, ℕ, ◌+◌, ◌<◌, ◌≤◌, Bool, true, false, cond, ◌&&◌, nat_eq, List, [], ◌∷◌, length, get_or, Option, Some, None, IsSome, Result, Ok, Err, IfOk, IfErr, refl, sym, ◌∙◌, ap, inl, inr, arith, rules as std_rules}
+use Rattle.std.proofs.Common.{◌≡◌, ℕ, ◌<◌, false, ◌&&◌, nat_eq, List, [], ◌∷◌, length, get_or, Some, None, IsSome, Result, Ok, Err, IfOk, IfErr, refl, sym, ◌∙◌, ap, inl, inr, arith, rules as std_rules}
 use Rattle.std.specs.List.{find, insert}
 use Rattle.std.proofs.lemmas.Bool.{cases_lt}
 use Rattle.std.specs.List.Sorted.{IsStrictlySortedBy, IsSearchInRange, IsBinarySearchResult}
@@ -63,9 +63,9 @@ pub adds_insert : (rules : List Rename) (rule : Rename) (at : ℕ) → IsGapFor 
 adds_insert rules rule at gap = record {
   rules = IsPermutation-insert rules at rule;
   answers = λ db table.
-    rule_found db table (insert rules at rule)
-    ∙ find_insert table_of table_order_total rules at rule (db, table) (λ k d lt within. gap.1 k d lt) gap.0
-    ∙ rw (rule_ties db table rule, rule_found db table rules) refl;
+      rule_found db table (insert rules at rule)
+      ∙ find_insert table_of table_order_total rules at rule (db, table) (λ k d lt within. gap.1 k d lt) gap.0
+      ∙ rw (rule_ties db table rule, rule_found db table rules) refl;
 }
 
 pub ordered_insert : (rules : List Rename) (rule : Rename) (at : ℕ) → IsOrdered rules → IsRule rule → IsGapFor rules (rule.db, rule.table) at → IsOrdered (insert rules at rule)

@@ -20,7 +20,6 @@ pub struct Names {
 
 impl Model for Names {
     ghost use Rattle.std.specs.Prelude.{List};
-
     ghost use Rattle.cdc_base.specs.declared.rename.Rename.{Rename as Rule};
 
     ghost Value = { List Rule };
@@ -95,8 +94,7 @@ impl Names {
         ensures found { IfOk result (IsRuleAt self.now (db.now, table.now)) }
         ensures absent { IfErr result (IsGapFor self.now (db.now, table.now)) }
     {
-        self.rules
-            .binary_search_by(|rule| compare(rule, db, table))
+        self.rules.binary_search_by(|rule| compare(rule, db, table))
     }
 }
 
@@ -104,8 +102,5 @@ impl Names {
 fn compare(rule: &Rename, db: &[u8], table: &[u8]) -> Ordering
     ensures { result ≡ table_order (table_of rule.now) (db.now, table.now) }
 {
-    rule.db
-        .bytes()
-        .cmp(db)
-        .then(rule.table.bytes().cmp(table))
+    rule.db.bytes().cmp(db).then(rule.table.bytes().cmp(table))
 }

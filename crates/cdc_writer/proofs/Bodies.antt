@@ -1,5 +1,5 @@
 -- The lengths of bodies and of printed events.
-use Rattle.std.proofs.Common.{◌≡◌, ℕ, zero, suc, ◌+◌, ◌/◌, ◌<◌, ◌≤◌, List, [], ◌∷◌, ◌++◌, length, refl, ap, arith, length-append}
+use Rattle.std.proofs.Common.{◌≡◌, ℕ, zero, suc, ◌+◌, ◌/◌, List, [], length, refl, ap, arith, length-append}
 use Rattle.cdc_event.specs.Number.{low_first}
 use Rattle.cdc_event.specs.declared.body.Body.TheVariants.{Query, RowsQuery, Xid}
 use Rattle.cdc_event.specs.Event.{header_bytes, body_bytes}

@@ -1,9 +1,8 @@
 -- A transaction's events, by whether a branch has a statement and whether one has none.
-use Rattle.std.proofs.Common.{◌≡◌, ℕ, ◌+◌, Bool, true, false, cond, ◌||◌, List, [], ◌∷◌, ◌++◌, length, Option, Some, None, is_some, is_none, map, codes, min, ◌-◌, ◌^◌, refl, ap, sym, subst, ◌∙◌, arith, append_assoc}
-use Rattle.std.specs.List.{list_any, filter, filter_map, cons_option}
+use Rattle.std.proofs.Common.{◌≡◌, ℕ, ◌+◌, Bool, true, false, cond, ◌||◌, List, [], ◌∷◌, ◌++◌, Option, Some, None, is_some, is_none, map, codes, min, ◌-◌, ◌^◌, refl, ap, sym, subst, ◌∙◌, arith, append_assoc}
+use Rattle.std.specs.List.{list_any, cons_option}
 use Rattle.std.proofs.lemmas.List.Sums.{sum_by-cons, sum_by-append}
 use Rattle.cdc_base.specs.declared.rename.Rename.{Rename}
-use Rattle.cdc_base.specs.declared.key.Key.{Key}
 use Rattle.cdc_model.specs.Records.{Row, CommittedBranch, Transaction}
 use Rattle.cdc_model.specs.Print.{Statement, branch_statement, statements_of, without_statement, row_events, rows_behind, rows_print, events_of, printed_events, begin_event, mark_event, xid_event, row_length, statement_event, distinct, laid, printed_bytes}
 use Rattle.cdc_writer.specs.Events.{events_length}
@@ -128,9 +127,9 @@ marked_counts rules txn n e rows count =
 
 -- the mark and the statements, and the rows behind them
 pub marked_laid : (rules : List Rename) (txn : Transaction) (before b1 b2 : List ℕ) (place p1 : ℕ) → has_statement txn.branches ≡ true
-  → b1 ≡ before ++ laid place txn.seconds (marked_events txn) → p1 ≡ place + events_length (marked_events txn)
-  → b2 ≡ b1 ++ laid p1 txn.seconds (rows_behind rules txn.number (without_statement txn.branches))
-  → b2 ≡ before ++ printed_bytes rules txn place
+    → b1 ≡ before ++ laid place txn.seconds (marked_events txn) → p1 ≡ place + events_length (marked_events txn)
+    → b2 ≡ b1 ++ laid p1 txn.seconds (rows_behind rules txn.number (without_statement txn.branches))
+    → b2 ≡ before ++ printed_bytes rules txn place
 marked_laid rules txn before b1 b2 place p1 some w1 e1 w2 =
     let rest = rows_behind rules txn.number (without_statement txn.branches) in
     let first = laid place txn.seconds (marked_events txn) in

@@ -1,5 +1,5 @@
 -- Events that are laid one behind another: what is written so far, and what is left.
-use Rattle.std.proofs.Common.{◌≡◌, ℕ, zero, suc, ◌+◌, ◌<◌, ◌≤◌, List, [], ◌∷◌, ◌++◌, length, take, drop, get_or, refl, ap, sym, subst, ◌∙◌, arith, length-append, append_assoc, append-nil, add-one, min, Result, Ok, Err, OnOk}
+use Rattle.std.proofs.Common.{◌≡◌, ℕ, zero, suc, ◌+◌, ◌<◌, ◌≤◌, List, [], ◌∷◌, ◌++◌, length, take, drop, get_or, refl, ap, sym, subst, ◌∙◌, arith, length-append, append_assoc, append-nil, add-one, Result, Ok, Err, OnOk}
 use Rattle.std.proofs.lemmas.List.{length-take, take-append-le}
 use Rattle.std.proofs.lemmas.List.Sums.{sum_by-cons, sum_by-append}
 use Rattle.std.proofs.Math.Seq.{drop-cons, take-length}
@@ -95,11 +95,11 @@ on_ok (Err error) f h = tt
 
 -- an event, some events, and two events more
 pub four_laid : (before b1 b2 b3 b4 : List ℕ) (place p1 p2 p3 seconds : ℕ) (first : Row) (some : List Row) (third last : Row)
-  → b1 ≡ before ++ printed_event place seconds first → p1 ≡ place + row_length first
-  → b2 ≡ b1 ++ laid p1 seconds some → p2 ≡ p1 + events_length some
-  → b3 ≡ b2 ++ printed_event p2 seconds third → p3 ≡ p2 + row_length third
-  → b4 ≡ b3 ++ printed_event p3 seconds last
-  → b4 ≡ before ++ laid place seconds (first ∷ (some ++ (third ∷ last ∷ [])))
+    → b1 ≡ before ++ printed_event place seconds first → p1 ≡ place + row_length first
+    → b2 ≡ b1 ++ laid p1 seconds some → p2 ≡ p1 + events_length some
+    → b3 ≡ b2 ++ printed_event p2 seconds third → p3 ≡ p2 + row_length third
+    → b4 ≡ b3 ++ printed_event p3 seconds last
+    → b4 ≡ before ++ laid place seconds (first ∷ (some ++ (third ∷ last ∷ [])))
 four_laid before b1 b2 b3 b4 place p1 p2 p3 seconds first some third last w1 e1 w2 e2 w3 e3 w4 =
     let all = first ∷ (some ++ (third ∷ last ∷ [])) in
     let l0 = left_all before place seconds all all refl in
@@ -110,10 +110,10 @@ four_laid before b1 b2 b3 b4 place p1 p2 p3 seconds first some third last w1 e1 
 
 -- an event, some events, and one event more
 pub three_laid : (before b1 b2 b3 : List ℕ) (place p1 p2 seconds : ℕ) (first : Row) (some : List Row) (last : Row)
-  → b1 ≡ before ++ printed_event place seconds first → p1 ≡ place + row_length first
-  → b2 ≡ b1 ++ laid p1 seconds some → p2 ≡ p1 + events_length some
-  → b3 ≡ b2 ++ printed_event p2 seconds last
-  → b3 ≡ before ++ laid place seconds (first ∷ (some ++ (last ∷ [])))
+    → b1 ≡ before ++ printed_event place seconds first → p1 ≡ place + row_length first
+    → b2 ≡ b1 ++ laid p1 seconds some → p2 ≡ p1 + events_length some
+    → b3 ≡ b2 ++ printed_event p2 seconds last
+    → b3 ≡ before ++ laid place seconds (first ∷ (some ++ (last ∷ [])))
 three_laid before b1 b2 b3 place p1 p2 seconds first some last w1 e1 w2 e2 w3 =
     let all = first ∷ (some ++ (last ∷ [])) in
     let l0 = left_all before place seconds all all refl in

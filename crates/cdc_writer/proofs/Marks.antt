@@ -1,6 +1,5 @@
 -- Decimal digits, and the length of a mark's text.
-use Rattle.std.proofs.Common.{◌≡◌, ℕ, zero, suc, ◌+◌, ◌-◌, ◌*◌, ◌^◌, IsTrue, ◌/◌, ◌%◌, ◌<◌, ◌≤◌, List, [], ◌∷◌, ◌++◌, length, drop, set, codes, refl, ap, sym, ◌∙◌, arith, length-append, append_assoc}
-use Rattle.hex.specs.Hex.{encode_lower, lower_digits}
+use Rattle.std.proofs.Common.{◌≡◌, ℕ, zero, suc, ◌+◌, ◌-◌, ◌*◌, ◌^◌, ◌/◌, ◌%◌, ◌<◌, ◌≤◌, List, [], ◌∷◌, ◌++◌, length, drop, set, refl, arith, length-append, append_assoc}
 use Rattle.hex.proofs.HexLemmas.{length-encode_with}
 use Rattle.cdc_base.specs.declared.key.Key.{Key}
 use Rattle.cdc_base.specs.declared.key.Key.TheVariants.{Shared, Plain}

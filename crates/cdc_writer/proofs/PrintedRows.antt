@@ -1,5 +1,5 @@
 -- Rows that are printed.
-use Rattle.std.proofs.Common.{◌≡◌, ℕ, ◌+◌, ◌<◌, ◌≤◌, ◌^◌, IsTrue, Bool, true, false, cond, List, [], ◌∷◌, ◌++◌, length, take, drop, get_or, is_none, refl, ap, sym, subst, ◌∙◌, arith}
+use Rattle.std.proofs.Common.{◌≡◌, ℕ, ◌+◌, ◌<◌, ◌^◌, IsTrue, Bool, true, false, cond, List, [], ◌∷◌, ◌++◌, length, drop, get_or, is_none, refl, ap, sym, subst, ◌∙◌, arith}
 use Rattle.std.specs.List.{AllByRecursion}
 use Rattle.cdc_base.specs.declared.rename.Rename.{Rename}
 use Rattle.cdc_event.specs.declared.body.Body.{Body}
@@ -7,7 +7,7 @@ use Rattle.cdc_model.specs.Records.{Row, CommittedBranch}
 use Rattle.cdc_model.specs.Kept.{IsRow}
 use Rattle.cdc_model.specs.Print.{row_length, row_events, without_statement, branch_statement}
 use Rattle.cdc_rename.specs.Names.{KeepsRow}
-use Rattle.cdc_writer.specs.Events.{IsPrintable, events_length, renamed_rows}
+use Rattle.cdc_writer.specs.Events.{IsPrintable, renamed_rows}
 use Rattle.cdc_writer.specs.Statements.{branch_events}
 use Rattle.cdc_writer.proofs.Laid.{item_first}
 

@@ -1,8 +1,8 @@
 -- The events of fixed form: BEGIN, statements and XID.
-use Rattle.std.proofs.Common.{◌≡◌, ℕ, ◌+◌, ◌<◌, ◌≤◌, ◌^◌, List, [], ◌∷◌, length, codes, refl, arith, lit≤}
+use Rattle.std.proofs.Common.{ℕ, ◌+◌, ◌<◌, ◌≤◌, ◌^◌, List, [], length, codes, refl, arith, lit≤}
 use Rattle.cdc_event.specs.declared.body.Body.TheVariants.{Query, Xid}
 use Rattle.cdc_event.specs.Event.{FitsBody}
-use Rattle.cdc_model.specs.Print.{Statement, row_length, statement_event, xid_event}
+use Rattle.cdc_model.specs.Print.{row_length, statement_event, xid_event}
 use Rattle.cdc_writer.specs.Events.{IsPrintable}
 use Rattle.cdc_writer.specs.Statements.{IsShort}
 use Rattle.cdc_writer.proofs.Bodies.{query_size, xid_size}

@@ -1,11 +1,11 @@
 -- The print of a transaction without rows is short.
-use Rattle.std.proofs.Common.{◌≡◌, ℕ, ◌+◌, ◌≤◌, Bool, true, false, List, [], ◌∷◌, ◌++◌, length, is_some, refl, ap, ◌∙◌, arith}
+use Rattle.std.proofs.Common.{◌≡◌, ◌≤◌, false, List, [], ◌∷◌, is_some, refl, ap, ◌∙◌, arith}
 use Rattle.std.specs.List.{AllByRecursion}
 use Rattle.cdc_base.specs.declared.rename.Rename.{Rename}
 use Rattle.cdc_base.specs.declared.key.Key.{Key}
 use Rattle.cdc_base.specs.declared.key.Key.TheVariants.{Shared, Plain}
-use Rattle.cdc_model.specs.Records.{Row, CommittedBranch, Transaction}
-use Rattle.cdc_model.specs.Print.{row_events, without_statement, branch_statement, mark_event, mark_text, row_length, printed_length}
+use Rattle.cdc_model.specs.Records.{CommittedBranch, Transaction}
+use Rattle.cdc_model.specs.Print.{row_events, without_statement, branch_statement, mark_event, row_length, printed_length}
 use Rattle.cdc_writer.specs.Events.{events_length, renamed_rows}
 use Rattle.cdc_writer.specs.Short.{HasNoRows, HasShortId}
 use Rattle.cdc_writer.specs.Parts.{alone_events}

@@ -1,6 +1,6 @@
 -- Statements of branches: how long they are, and each statement once.
-use Rattle.std.proofs.Common.{◌≡◌, ℕ, zero, suc, ◌+◌, ◌^◌, ◌<◌, ◌≤◌, Bool, true, false, cond, ◌&&◌, ◌||◌, not, nat_eq, nat_le, List, [], ◌∷◌, ◌++◌, length, take, drop, get_or, map, Option, Some, None, IfSome, is_some, is_none, refl, ap, sym, subst, ◌∙◌, arith, append_assoc, append-nil, length-drop, codes}
-use Rattle.std.specs.List.{AllByRecursion, list_any, filter, filter_map, cons_option, starts_with}
+use Rattle.std.proofs.Common.{◌≡◌, ℕ, suc, ◌+◌, ◌^◌, ◌<◌, ◌≤◌, Bool, true, false, cond, ◌&&◌, ◌||◌, not, nat_eq, nat_le, List, [], ◌∷◌, ◌++◌, length, take, drop, get_or, map, Option, Some, None, IfSome, refl, ap, sym, subst, ◌∙◌, arith, append_assoc, append-nil, length-drop, codes}
+use Rattle.std.specs.List.{AllByRecursion, list_any, filter, cons_option, starts_with}
 use Rattle.std.specs.Option.{option_map, option_and_then}
 use Rattle.std.proofs.lemmas.List.{take_more}
 use Rattle.std.proofs.lemmas.List.Elements.{filter-append, filter_map-append}
@@ -11,7 +11,7 @@ use Rattle.cdc_event.specs.declared.body.Body.TheVariants.{Xid as XidEvent}
 use Rattle.cdc_event.specs.Event.{body_bytes}
 use Rattle.cdc_model.specs.Records.{Row, CommittedBranch}
 use Rattle.cdc_model.specs.Kept.{IsRow}
-use Rattle.cdc_model.specs.Print.{Statement, split_at_colons, well_formed, statement_in, row_statement, branch_statement, same_statement, distinct, statements_of, without_statement, statement_event}
+use Rattle.cdc_model.specs.Print.{Statement, split_at_colons, well_formed, statement_in, row_statement, branch_statement, same_statement, distinct, statements_of, statement_event}
 use Rattle.cdc_writer.specs.Statements.{is_statement, is_known, new_statement, statement_events, all_statement_events, IsShort}
 use Rattle.cdc_writer.specs.Events.{events_length}
 use Rattle.cdc_writer.proofs.Bodies.{marked_size, query_size}

@@ -1,5 +1,5 @@
 -- Why a transaction isn't printed.
-use Rattle.std.specs.Prelude.{◌≡◌, ℕ, ◌-◌, ◌^◌, ◌<◌, min, List}
+use Rattle.std.specs.Prelude.{◌≡◌, ◌-◌, ◌^◌, ◌<◌, min, List}
 use Rattle.cdc_base.specs.declared.rename.Rename.{Rename}
 use Rattle.cdc_model.specs.Records.{Transaction}
 use Rattle.cdc_model.specs.Print.{printed_length}

@@ -1,5 +1,5 @@
 -- Statements of branches, one branch after another.
-use Rattle.std.specs.Prelude.{ℕ, ◌+◌, ◌^◌, ◌≤◌, Bool, true, false, cond, List, [], ◌∷◌, ◌++◌, length, map, if◌then◌else◌, Option, Some, None, is_none}
+use Rattle.std.specs.Prelude.{◌+◌, ◌^◌, ◌≤◌, Bool, false, List, [], ◌∷◌, length, map, if◌then◌else◌, Option, Some, None, is_none}
 use Rattle.std.specs.List.{list_any}
 use Rattle.cdc_base.specs.declared.rename.Rename.{Rename}
 use Rattle.cdc_model.specs.Records.{Row, CommittedBranch}

@@ -81,8 +81,9 @@ fn statements_length(branches: &[Branch]) -> u64
 fn alone_length(txn: &Txn, names: &Names) -> u64
     ensures { result ≡ min (events_length (alone_events names.now txn.now)) (2 ^ 64 - 1) }
 {
-    branches_length(txn.branches.as_slice(), names)
-        .saturating_add(FRAME_LENGTH + mark_length(&txn.key))
+    branches_length(txn.branches.as_slice(), names).saturating_add(
+        FRAME_LENGTH + mark_length(&txn.key),
+    )
 }
 
 fn marked_length(txn: &Txn) -> u64

@@ -16,8 +16,6 @@ mod statement;
 mod transaction;
 
 pub use head::{HEAD_LENGTH, write_head};
-pub use laws::{
-    head_has_its_length, prints_have_their_length, prints_without_rows_are_short,
-};
+pub use laws::{head_has_its_length, prints_have_their_length, prints_without_rows_are_short};
 pub use length::print_length;
 pub use printing::{PRINT_MAX, PrintError, print};

@@ -15,7 +15,9 @@ pub(crate) const ROWS_QUERY: u8 = 29;
 
 /// The digits of a timestamp, of a node's number and of an entry's.
 const TIMESTAMP_DIGITS: usize = 19;
+
 const NODE_DIGITS: usize = 5;
+
 const ENTRY_DIGITS: usize = 20;
 
 /// The most bytes of a global id's text.
@@ -130,5 +132,11 @@ pub(crate) fn put_mark(
 {
     let text = text_of(alloc, key)?;
     let size = text_length(key);
-    put_event(ROWS_QUERY, Body::RowsQuery { size, text }, seconds, place, into)
+    put_event(
+        ROWS_QUERY,
+        Body::RowsQuery { size, text },
+        seconds,
+        place,
+        into,
+    )
 }

@@ -133,12 +133,7 @@ fn put_alone(
 }
 
 // The mark and the statements.
-fn put_marked(
-    alloc: Global,
-    txn: &Txn,
-    place: u32,
-    into: &mut Buffer,
-) -> Result<u32, Memory>
+fn put_marked(alloc: Global, txn: &Txn, place: u32, into: &mut Buffer) -> Result<u32, Memory>
     requires { place + events_length (marked_events txn.now) < 2 ^ 32 }
     ensures next { IfOk result (λ next. next ≡ place + events_length (marked_events txn.now)) }
     ensures ok { OnOk result (into.new ≡ into.old ++ laid place txn.now.seconds (marked_events txn.now)) }

@@ -1,4 +1,4 @@
-use Rattle.std.proofs.Common.{sym, ap, ◌∙◌, min, arith}
+use Rattle.std.proofs.Common.{sym, arith}
 use Rattle.cdc_rename.proofs.Maps.{renamed_size}
 use Rattle.cdc_rename.proofs.table.renamed_length.Goals as goal
 

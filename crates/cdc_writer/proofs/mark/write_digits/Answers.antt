@@ -1,4 +1,4 @@
-use Rattle.std.proofs.Common.{◌≡◌, ℕ, length, sym, ◌∙◌, arith, length-set}
+use Rattle.std.proofs.Common.{◌≡◌, ℕ, sym, ◌∙◌, arith, length-set}
 use Rattle.cdc_writer.proofs.Marks.{digits_step, digits_none}
 use Rattle.cdc_writer.proofs.mark.write_digits.Goals as goal
 

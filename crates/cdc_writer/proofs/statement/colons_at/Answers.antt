@@ -1,4 +1,4 @@
-use Rattle.std.proofs.Common.{sym, ◌∙◌, arith}
+use Rattle.std.proofs.Common.{sym, ◌∙◌}
 use Rattle.cdc_writer.proofs.Colons.{split_step, split_here, rest_whole}
 use Rattle.cdc_writer.proofs.statement.colons_at.Goals as goal
 

@@ -7,5 +7,5 @@ returns-clause-ok c =
     let next = rw c.as_slice-branches.ensures at c.in_ok-end.ensures.next in
     rw (← c.txn.view_is)
     (on_ok _ (three_laid _ _ _ _ _ _ _ _ _ _ _
-      c.in_ok-rows.ensures.ok c.in_ok-rows.ensures.next rows next)
+    c.in_ok-rows.ensures.ok c.in_ok-rows.ensures.next rows next)
     c.put_xid.ensures.ok)

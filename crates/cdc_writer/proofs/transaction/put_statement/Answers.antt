@@ -1,4 +1,3 @@
-use Rattle.std.proofs.Common.{◌∙◌}
 use Rattle.cdc_writer.proofs.StatementsOnce.{short_of}
 use Rattle.cdc_writer.proofs.transaction.put_statement.Goals as goal
 

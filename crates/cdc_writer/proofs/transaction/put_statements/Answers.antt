@@ -1,5 +1,4 @@
-use Rattle.std.proofs.Common.{◌+◌, ◌≤◌, take, arith}
-use Rattle.cdc_writer.specs.Events.{events_length}
+use Rattle.std.proofs.Common.{◌+◌, take, arith}
 use Rattle.cdc_writer.specs.Statements.{statement_events, all_statement_events}
 use Rattle.cdc_writer.proofs.Laid.{left_all, left_is, left_many, left_none, some_within}
 use Rattle.cdc_writer.proofs.StatementsOnce.{left_events, left_start, left_first, left_end}

@@ -1,4 +1,4 @@
-use Rattle.std.proofs.Common.{◌≡◌, ℕ, ◌+◌, ◌<◌, ◌^◌, List, ◌++◌, OnOk, sym, ap, subst, ◌∙◌, arith}
+use Rattle.std.proofs.Common.{◌≡◌, ◌+◌, ◌<◌, ◌^◌, List, ◌++◌, OnOk, sym, ap, subst, ◌∙◌, arith}
 use Rattle.cdc_model.specs.Records.{Row, Transaction}
 use Rattle.cdc_model.specs.Print.{laid}
 use Rattle.cdc_writer.specs.Events.{events_length}

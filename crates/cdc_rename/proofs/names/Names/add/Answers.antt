@@ -1,5 +1,5 @@
-use Rattle.std.proofs.Common.{◌≡◌, Ok, Err, sym, subst, refl, ap, ◌∙◌}
-use Rattle.cdc_rename.specs.Names.{IsOrdered, Adds, IsGapFor}
+use Rattle.std.proofs.Common.{subst, refl}
+use Rattle.cdc_rename.specs.Names.{IsOrdered}
 use Rattle.cdc_rename.proofs.Rules.{is_there, is_not_there, adds_insert, ordered_insert}
 use Rattle.cdc_rename.proofs.names.Names.add.Goals as goal
 

@@ -1,6 +1,6 @@
-use Rattle.std.proofs.Common.{rules, subst}
+use Rattle.std.proofs.Common.{rules}
 use Rattle.std.proofs.lemmas.Fn.{always_returns_same}
-use Rattle.cdc_rename.specs.Names.{TableName, table_order, table_of, IsOrdered}
+use Rattle.cdc_rename.specs.Names.{TableName, table_order, table_of}
 use Rattle.cdc_rename.proofs.Rules.{searched}
 use Rattle.cdc_rename.proofs.names.Names.search.Goals as goal
 
