@@ -36,9 +36,10 @@ pub fn key_cmp(a: &Key, b: &Key) -> Ordering
                 timestamp: other_timestamp,
                 gtrid: other_gtrid,
             },
-        ) => timestamp
-            .cmp(other_timestamp)
-            .then(gtrid.bytes().cmp(other_gtrid.bytes())),
+        ) => {
+            let by_id = gtrid.bytes().cmp(other_gtrid.bytes());
+            timestamp.cmp(other_timestamp).then(by_id)
+        }
         (
             Key::Shared { timestamp, .. },
             Key::Plain {
