@@ -39,7 +39,7 @@ answered told shown call Done a = record {
   not_yet = λ t e. absurd (omega (arith, e));
   sink = λ e. absurd (omega (arith, e));
   sink_in_form = λ t e. absurd (omega (arith, e));
-  complete = λ t given form none. inl refl
+  complete = λ t given form none. inl refl;
 }
 answered told shown call Usage a = record {
   statuses = inr (inl refl);
@@ -52,7 +52,7 @@ answered told shown call Usage a = record {
   not_yet = λ t e. absurd (omega (arith, e));
   sink = λ e. absurd (omega (arith, e));
   sink_in_form = λ t e. absurd (omega (arith, e));
-  complete = λ t given form none. absurd (no_both call.words given a.0)
+  complete = λ t given form none. absurd (no_both call.words given a.0);
 }
 answered told shown call (NotYet node) a = record {
   statuses = inr (inr (inl refl));
@@ -65,7 +65,7 @@ answered told shown call (NotYet node) a = record {
   not_yet = λ t e. (node, a.1 t);
   sink = λ e. absurd (omega (arith, e));
   sink_in_form = λ t e. absurd (omega (arith, e));
-  complete = λ t given form none. absurd (not_both call node form (a.1 t))
+  complete = λ t given form none. absurd (not_both call node form (a.1 t));
 }
 answered told shown call (Read node) a = record {
   statuses = inr (inr (inr (inl refl)));
@@ -78,7 +78,7 @@ answered told shown call (Read node) a = record {
   not_yet = λ t e. absurd (omega (arith, e));
   sink = λ e. absurd (omega (arith, e));
   sink_in_form = λ t e. absurd (omega (arith, e));
-  complete = λ t given form none. absurd (none.0 node a.1)
+  complete = λ t given form none. absurd (none.0 node a.1);
 }
 answered told shown call Memory a = record {
   statuses = inr (inr (inr (inr (inl refl))));
@@ -91,7 +91,7 @@ answered told shown call Memory a = record {
   not_yet = λ t e. absurd (omega (arith, e));
   sink = λ e. absurd (omega (arith, e));
   sink_in_form = λ t e. absurd (omega (arith, e));
-  complete = λ t given form none. inr refl
+  complete = λ t given form none. inr refl;
 }
 answered told shown call Sink a = record {
   statuses = inr (inr (inr (inr (inr refl))));
@@ -104,5 +104,5 @@ answered told shown call Sink a = record {
   not_yet = λ t e. absurd (omega (arith, e));
   sink = λ e. a.1;
   sink_in_form = λ t e. a.3 t;
-  complete = λ t given form none. absurd (none.1 a.1)
+  complete = λ t given form none. absurd (none.1 a.1);
 }

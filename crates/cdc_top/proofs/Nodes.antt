@@ -33,7 +33,7 @@ pub later_kept : {S : Type 0} (faults : S → ℕ) (first items : List S) (place
 later_kept faults first items place old new within value later before k =
     ⊎_elim
     (λ (same : k ≡ place). subst (λ (n : ℕ). get_or (map faults first) n 0 ≤ get_or (map faults (set items place new)) n 0) (sym same)
-      (omega (arith, before place, count_at faults items place old within value, new_count_at faults items place new within, later)))
+    (omega (arith, before place, count_at faults items place old within value, new_count_at faults items place new within, later)))
     (λ (other : k ≡ place → ⊥). rw (map-set, get_or-set_other) (before k))
     (cases_eq k place)
 
@@ -46,7 +46,7 @@ cause_kept tells held faults first items place old new within value long before 
     subst (λ (n : ℕ). RoseAt (map faults first) (map faults (set items place new)) n) (sym cause.0) record {
       first = omega arith;
       last = rw length-map (omega (arith, within, long));
-      rose = rw at (omega (arith, before place, count_at faults items place old within value, new_count_at faults items place new within, cause.1))
+      rose = rw at (omega (arith, before place, count_at faults items place old within value, new_count_at faults items place new within, cause.1));
     }
 cause_kept tells held faults first items place old new within value long before Memory cause = tt
 cause_kept tells held faults first items place old new within value long before (NotYet node) cause = absurd cause
@@ -67,7 +67,7 @@ step_kept nodes count files before logs None now within here known (inl step) =
     let all : AreThinLogs (take (count + 1) nodes) (before ++ log ∷ []) = rw (take_more nodes count [] within, here) (all_zip_push (take count nodes) before files log known.0 step.1) in
     let thin : IsThinAt nodes (count + 1) = (log, rw (at, here) step.1) in
     let each : (other : ℕ) → 1 ≤ other → other ≤ count + 1 → IsThinAt nodes other = λ other low high.
-      ⊎_elim (λ (same : other ≡ count + 1). subst (IsThinAt nodes) (sym same) thin) (λ (differs : other ≡ count + 1 → ⊥). known.1 other low (omega (arith, high, differs))) (cases_eq other (count + 1)) in
+    ⊎_elim (λ (same : other ≡ count + 1). subst (IsThinAt nodes) (sym same) thin) (λ (differs : other ≡ count + 1 → ⊥). known.1 other low (omega (arith, high, differs))) (cases_eq other (count + 1)) in
     subst (λ (n : Option ℕ). IsReadTo nodes (count + 1) logs n) (sym step.3)
     (subst (λ (ls : List NodeLog). IsReadTo nodes (count + 1) ls None) (sym step.2) (all, each))
 step_kept nodes count files before logs None now within here known (inr step) =
@@ -76,7 +76,7 @@ step_kept nodes count files before logs None now within here known (inr step) =
       first = omega arith;
       last = omega (arith, within);
       not_thin = rw (at, here) step.0;
-      lesser = λ other low below. known.1 other low (omega (arith, below))
+      lesser = λ other low below. known.1 other low (omega (arith, below));
     }
 step_kept nodes count files before logs (Some node) now within here known (inl step) =
     subst (λ (n : Option ℕ). IsReadTo nodes (count + 1) logs n) (sym step.3) known

@@ -39,7 +39,7 @@ small_from : (log : NodeLog) (entries : List LogEntry) → log ≡ log_of entrie
 small_from log entries same small few = subst IsSmallRead (sym same) record {
   small = record { opened = refl; entries = small };
   counted = omega (arith, few);
-  few = few
+  few = few;
 }
 
 small_pairs_read : (file : List ℕ) (log : NodeLog) → HasPairs file log → IsSmallRead log
@@ -94,5 +94,5 @@ printable law head logs nodes read =
       entries = entries;
       short = short;
       room = room;
-      shown = unrotated_shown logs short room
+      shown = unrotated_shown logs short room;
     }

@@ -164,11 +164,13 @@ keys_short mark keys (branch ∷ branches) k a =
 transactions_small : (branches : List CommittedBranch) (number : ℕ) (keys : List Key) → AllByRecursion IsSmallBranch branches → AllByRecursion HasShortId keys
     → AllByRecursion IsSmallTransaction (transactions_of branches number keys)
 transactions_small branches number [] a k = tt
-transactions_small branches number (key ∷ keys) a k =
-    (record {
-      branches = all_filter (λ (branch : CommittedBranch). branch.rows ≡ []) (has_key key) branches (rows_none branches a);
-      key = k.0
-    }, transactions_small branches (number + 1) keys a k.1)
+transactions_small branches number (key ∷ keys) a k = (
+  record {
+    branches = all_filter (λ (branch : CommittedBranch). branch.rows ≡ []) (has_key key) branches (rows_none branches a);
+    key = k.0;
+  },
+  transactions_small branches (number + 1) keys a k.1,
+)
   where
     rows_none : (branches : List CommittedBranch) → AllByRecursion IsSmallBranch branches → AllByRecursion (λ (branch : CommittedBranch). branch.rows ≡ []) branches
     rows_none [] a = tt

@@ -18,7 +18,7 @@ printed_more before now gathered piece left whole later kept p f =
     record {
       front = p.front ++ more;
       written = f.1 ∙ (ap (λ bytes. bytes ++ more) p.written ∙ append_assoc before p.front more);
-      rest = p.rest ∙ (ap (λ bytes. p.front ++ bytes) (sym all ∙ append_assoc more kept left) ∙ sym (append_assoc p.front more (kept ++ left)))
+      rest = p.rest ∙ (ap (λ bytes. p.front ++ bytes) (sym all ∙ append_assoc more kept left) ∙ sym (append_assoc p.front more (kept ++ left)));
     }
 
 -- a piece of which a front was written
@@ -27,19 +27,23 @@ pub printed_partly : (before now gathered piece left whole later : List ℕ) →
 printed_partly before now gathered piece left whole later p f =
     let more = f.0 in
     let over = f.1 in
-    let all : (more ++ over) ++ left ≡ gathered ++ (piece ++ left) = ap (λ bytes. bytes ++ left) (sym f.2) ∙ append_assoc gathered piece left in
-    (p.front ++ more, over ++ left,
+    let all : (more ++ over) ++ left ≡ gathered ++ (piece ++ left) = ap (λ bytes. bytes ++ left) (sym f.2) ∙ append_assoc gathered piece left in (
+      p.front ++ more,
+      over ++ left,
       p.rest ∙ (ap (λ bytes. p.front ++ bytes) (sym all ∙ append_assoc more over left) ∙ sym (append_assoc p.front more (over ++ left))),
-      f.3 ∙ (ap (λ bytes. bytes ++ more) p.written ∙ append_assoc before p.front more))
+      f.3 ∙ (ap (λ bytes. bytes ++ more) p.written ∙ append_assoc before p.front more),
+    )
 
 -- what was gathered, of which a front was written
 pub printed_front : (before now gathered left whole later : List ℕ) → IsPrinting before now gathered left whole → WritesTo now gathered later → WritesTo before whole later
 printed_front before now gathered left whole later p f =
     let more = f.0 in
-    let over = f.1 in
-    (p.front ++ more, over ++ left,
+    let over = f.1 in (
+      p.front ++ more,
+      over ++ left,
       p.rest ∙ (ap (λ bytes. p.front ++ (bytes ++ left)) f.2 ∙ (ap (λ bytes. p.front ++ bytes) (append_assoc more over left) ∙ sym (append_assoc p.front more (over ++ left)))),
-      f.3 ∙ (ap (λ bytes. bytes ++ more) p.written ∙ append_assoc before p.front more))
+      f.3 ∙ (ap (λ bytes. bytes ++ more) p.written ∙ append_assoc before p.front more),
+    )
 
 -- the first transaction of those that are left
 pub left_first : (txns : List Transaction) (place : ℕ) (txn : Transaction) → place < length txns → txn ≡ get_or txns place txn → drop place txns ≡ txn ∷ drop (place + 1) txns
@@ -59,7 +63,7 @@ left_behind at next txn all left split moved short room =
     let more : length all ≡ 1 + length left = rw split (omega arith) in
     record {
       short = shorts.1;
-      room = omega (arith, first, more, room, moved)
+      room = omega (arith, first, more, room, moved);
     }
 
 -- the prints that are left are the first one's, and those behind it

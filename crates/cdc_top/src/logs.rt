@@ -37,10 +37,7 @@ impl From<Memory> for LogsError {
 pub type LogList = Items<NodeLog>;
 
 /// The log of a node in the thin form; none exactly where it isn't in it.
-fn read_node<S: Source>(
-    alloc: Global,
-    source: &mut S,
-) -> Result<Option<NodeLog>, ReadWholeError>
+fn read_node<S: Source>(alloc: Global, source: &mut S) -> Result<Option<NodeLog>, ReadWholeError>
     ensures some { IsTrue S.tells → IfOk result (λ read. IfSome read (IsThinLog (S.held source.old))) }
     ensures none { IsTrue S.tells → IfOk result (λ read. IfNone read (IsNotThin (S.held source.old))) }
     ensures read { IfOk result (λ read. IfSome read IsRead) }
@@ -104,7 +101,13 @@ pub fn read_logs<S: Source>(alloc: Global, nodes: &mut Vec<S>) -> Result<LogList
     let mut logs = LogList::new(alloc);
     let mut not_yet = None;
     for place in 0..nodes.len() {
-        match read_next(alloc, &mut nodes[place], place as u32 + 1, &mut logs, not_yet) {
+        match read_next(
+            alloc,
+            &mut nodes[place],
+            place as u32 + 1,
+            &mut logs,
+            not_yet,
+        ) {
             Ok(least) => not_yet = least,
             Err(error) => return Err(error),
         }

@@ -25,14 +25,14 @@ fn print_nodes<S: Source, K: Sink>(
 ) -> Answer
     requires { command.is_print words.now ≡ true → length nodes.old.items ≤ 256 }
     ensures answer { IsAnswerOf S.tells K.tells record {
-        words = words.now;
-        nodes = map S.held nodes.old.items;
-        reads_before = map S.faults nodes.old.items;
-        reads_now = map S.faults nodes.new.items;
-        out_before = K.written out.old;
-        out_now = K.written out.new;
-        faults_before = K.faults out.old;
-        faults_now = K.faults out.new
+      words = words.now;
+      nodes = map S.held nodes.old.items;
+      reads_before = map S.faults nodes.old.items;
+      reads_now = map S.faults nodes.new.items;
+      out_before = K.written out.old;
+      out_now = K.written out.new;
+      faults_before = K.faults out.old;
+      faults_now = K.faults out.new;
     } result }
     ensures later { NoneFell (map S.faults nodes.old.items) (map S.faults nodes.new.items) }
     ensures held { map S.held nodes.new.items ≡ map S.held nodes.old.items }
@@ -82,26 +82,26 @@ pub fn top<S: Source, K: Sink>(
 
     // The promises, status by status.
     ensures answered { IsAnswered S.tells K.tells record {
-        words = words.now;
-        nodes = map S.held nodes.old.items;
-        reads_before = map S.faults nodes.old.items;
-        reads_now = map S.faults nodes.new.items;
-        out_before = K.written out.old;
-        out_now = K.written out.new;
-        faults_before = K.faults out.old;
-        faults_now = K.faults out.new
+      words = words.now;
+      nodes = map S.held nodes.old.items;
+      reads_before = map S.faults nodes.old.items;
+      reads_now = map S.faults nodes.new.items;
+      out_before = K.written out.old;
+      out_now = K.written out.new;
+      faults_before = K.faults out.old;
+      faults_now = K.faults out.new;
     } result }
 
     // The answer, with the node that it names, and its line.
     ensures answer { (answer : Answer) × (result ≡ answers.status_of answer) × IsAnswerOf S.tells K.tells record {
-        words = words.now;
-        nodes = map S.held nodes.old.items;
-        reads_before = map S.faults nodes.old.items;
-        reads_now = map S.faults nodes.new.items;
-        out_before = K.written out.old;
-        out_now = K.written out.new;
-        faults_before = K.faults out.old;
-        faults_now = K.faults out.new
+      words = words.now;
+      nodes = map S.held nodes.old.items;
+      reads_before = map S.faults nodes.old.items;
+      reads_now = map S.faults nodes.new.items;
+      out_before = K.written out.old;
+      out_now = K.written out.new;
+      faults_before = K.faults out.old;
+      faults_now = K.faults out.new;
     } answer × (IsTrue K.tells → answers.IsSaid (K.written err.old) (answers.line_of answer) (K.written err.new) (K.faults err.old) (K.faults err.new)) }
 
     // No count falls, and sources hold what they held.

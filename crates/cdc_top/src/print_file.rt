@@ -16,8 +16,8 @@ use cdc_model::{NodeLog, Txn, first_key, ordered_transactions};
 use cdc_outside::{Failed, Sink};
 use cdc_rename::Names;
 use cdc_writer::{
-    HEAD_LENGTH, PrintError, head_has_its_length, print, prints_have_their_length, prints_without_rows_are_short,
-    write_head,
+    HEAD_LENGTH, PrintError, head_has_its_length, print, prints_have_their_length,
+    prints_without_rows_are_short, write_head,
 };
 use std::alloc::Global;
 
@@ -95,11 +95,7 @@ fn print_next<K: Sink>(
 
 /// Writes the file of transactions whose prints are short: nothing where there is none, or the head and all
 /// prints.
-fn print_transactions<K: Sink>(
-    alloc: Global,
-    txns: &[Txn],
-    out: &mut K,
-) -> Result<(), WriteError>
+fn print_transactions<K: Sink>(alloc: Global, txns: &[Txn], out: &mut K) -> Result<(), WriteError>
     requires short { AllByRecursion IsShortPrint txns.now }
     requires room { length file_head + 242 * length txns.now ≤ last_place }
     ensures ok { IsTrue K.tells → OnOk result (K.written out.new ≡ K.written out.old ++ shown_file txns.now) }

@@ -24,13 +24,13 @@ loop-place-preserved g c =
     let long : length items ≡ length c.args.nodes.now.items = same_length g.S.Source.held c.loop-place.nodes.items c.args.nodes.now.items c.loop-place.invariant.held in
     let within : c.loop-place.place < length items = omega (arith, long) in
     let inside : c.loop-place.place < length (map g.S.Source.held c.args.nodes.now.items)
-        = rw (← c.loop-place.invariant.held, length-map) within in
+    = rw (← c.loop-place.invariant.held, length-map) within in
     let here : get_or (map g.S.Source.held c.args.nodes.now.items) c.loop-place.place [] ≡ g.S.Source.held old
-        = rw (← c.loop-place.invariant.held) (get_or-map g.S.Source.held items c.loop-place.place old [] within ∙ ap g.S.Source.held (sym c.index_mut.ensures.value)) in
+    = rw (← c.loop-place.invariant.held) (get_or-map g.S.Source.held items c.loop-place.place old [] within ∙ ap g.S.Source.held (sym c.index_mut.ensures.value)) in
     record {
       held = held_kept g.S.Source.held items c.loop-place.place old c.read_next.new.source c.index_mut.ensures.value c.read_next.ensures.held ∙ c.loop-place.invariant.held;
       later = later_kept g.S.Source.faults c.args.nodes.now.items items c.loop-place.place old c.read_next.new.source within c.index_mut.ensures.value c.read_next.ensures.later c.loop-place.invariant.later;
       read = c.in-Ok.ensures.read c.loop-place.invariant.read;
       many = omega (arith, c.in-Ok.ensures.many, c.loop-place.invariant.many);
-      told = λ tells. step_kept (map g.S.Source.held c.args.nodes.now.items) c.loop-place.place (g.S.Source.held old) c.loop-place.logs c.read_next.new.logs c.loop-place.not_yet c.in-Ok.least inside here (c.loop-place.invariant.told tells) (c.in-Ok.ensures.step tells)
+      told = λ tells. step_kept (map g.S.Source.held c.args.nodes.now.items) c.loop-place.place (g.S.Source.held old) c.loop-place.logs c.read_next.new.logs c.loop-place.not_yet c.in-Ok.least inside here (c.loop-place.invariant.told tells) (c.in-Ok.ensures.step tells);
     }

@@ -9,5 +9,5 @@ invariant-loop-place g l = record {
   later : NoneFell (map g.S.Source.faults l.fn.nodes.items) (map g.S.Source.faults l.nodes.items);
   read : AllByRecursion IsRead l.logs;
   many : length l.logs ≤ l.place;
-  told : IsTrue g.S.Source.tells → IsReadTo (map g.S.Source.held l.fn.nodes.items) l.place l.logs l.not_yet
+  told : IsTrue g.S.Source.tells → IsReadTo (map g.S.Source.held l.fn.nodes.items) l.place l.logs l.not_yet;
 }

@@ -38,8 +38,8 @@ loop-txn-preserved g c =
       room = behind.room;
       later = omega (arith, c.loop-txn.invariant.later, c.print_next.ensures.later);
       told = λ tells. printed_more (written c.args.out.now) (written c.loop-txn.out) c.loop-txn.gathered (printed_bytes [] txn at) (prints_at [] next left) (shown_file txns) (written c.print_next.new.out) c.print_next.new.gathered
-        (subst (λ (ls : List ℕ). IsPrinting (written c.args.out.now) (written c.loop-txn.out) c.loop-txn.gathered ls (shown_file txns)) bytes (c.loop-txn.invariant.told tells))
-        (c.in-Ok-print_next.ensures.ok tells)
+          (subst (λ (ls : List ℕ). IsPrinting (written c.args.out.now) (written c.loop-txn.out) c.loop-txn.gathered ls (shown_file txns)) bytes (c.loop-txn.invariant.told tells))
+          (c.in-Ok-print_next.ensures.ok tells);
     }
 
 pub returns-clause-err : goal.returns-clause-err

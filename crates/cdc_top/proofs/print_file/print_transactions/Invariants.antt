@@ -11,5 +11,5 @@ invariant-loop-txn g l = record {
   short : AllByRecursion IsShortPrint (drop l.txn-index l.txns);
   room : l.at + 242 * length (drop l.txn-index l.txns) ≤ last_place;
   later : g.K.Sink.faults l.fn.out ≤ g.K.Sink.faults l.out;
-  told : IsTrue g.K.Sink.tells → IsPrinting (g.K.Sink.written l.fn.out) (g.K.Sink.written l.out) l.gathered (prints_at [] l.at (drop l.txn-index l.txns)) (shown_file l.txns)
+  told : IsTrue g.K.Sink.tells → IsPrinting (g.K.Sink.written l.fn.out) (g.K.Sink.written l.out) l.gathered (prints_at [] l.at (drop l.txn-index l.txns)) (shown_file l.txns);
 }
