@@ -38,7 +38,7 @@ answered told shown call Done a = record {
   read = λ e. absurd (omega (arith, e));
   not_yet = λ t e. absurd (omega (arith, e));
   sink = λ e. absurd (omega (arith, e));
-  sink_in_form = λ t e. absurd (omega (arith, e));
+  in_form = λ t e. a.2 t;
   complete = λ t given form none. inl refl;
 }
 answered told shown call Usage a = record {
@@ -51,7 +51,7 @@ answered told shown call Usage a = record {
   read = λ e. absurd (omega (arith, e));
   not_yet = λ t e. absurd (omega (arith, e));
   sink = λ e. absurd (omega (arith, e));
-  sink_in_form = λ t e. absurd (omega (arith, e));
+  in_form = λ t e. absurd (⊎_elim (λ p. omega (arith, p)) (λ p. omega (arith, p)) e);
   complete = λ t given form none. absurd (no_both call.words given a.0);
 }
 answered told shown call (NotYet node) a = record {
@@ -64,7 +64,7 @@ answered told shown call (NotYet node) a = record {
   read = λ e. absurd (omega (arith, e));
   not_yet = λ t e. (node, a.1 t);
   sink = λ e. absurd (omega (arith, e));
-  sink_in_form = λ t e. absurd (omega (arith, e));
+  in_form = λ t e. absurd (⊎_elim (λ p. omega (arith, p)) (λ p. omega (arith, p)) e);
   complete = λ t given form none. absurd (not_both call node form (a.1 t));
 }
 answered told shown call (Read node) a = record {
@@ -77,7 +77,7 @@ answered told shown call (Read node) a = record {
   read = λ e. (node, a.1);
   not_yet = λ t e. absurd (omega (arith, e));
   sink = λ e. absurd (omega (arith, e));
-  sink_in_form = λ t e. absurd (omega (arith, e));
+  in_form = λ t e. absurd (⊎_elim (λ p. omega (arith, p)) (λ p. omega (arith, p)) e);
   complete = λ t given form none. absurd (none.0 node a.1);
 }
 answered told shown call Memory a = record {
@@ -90,7 +90,7 @@ answered told shown call Memory a = record {
   read = λ e. absurd (omega (arith, e));
   not_yet = λ t e. absurd (omega (arith, e));
   sink = λ e. absurd (omega (arith, e));
-  sink_in_form = λ t e. absurd (omega (arith, e));
+  in_form = λ t e. absurd (⊎_elim (λ p. omega (arith, p)) (λ p. omega (arith, p)) e);
   complete = λ t given form none. inr refl;
 }
 answered told shown call Sink a = record {
@@ -103,6 +103,6 @@ answered told shown call Sink a = record {
   read = λ e. absurd (omega (arith, e));
   not_yet = λ t e. absurd (omega (arith, e));
   sink = λ e. a.1;
-  sink_in_form = λ t e. a.3 t;
+  in_form = λ t e. a.3 t;
   complete = λ t given form none. absurd (none.1 a.1);
 }

@@ -40,7 +40,8 @@ WroteNothing call = call.out_now ≡ call.out_before
 
 -- what each answer says of a call, where the sources tell what they hold and the sinks what they were given
 abbrev pub IsAnswerOf : Bool → Bool → PrintCall → Answer → Type 0
-IsAnswerOf told shown call Done = (is_print call.words ≡ true) × (IsTrue told → IsTrue shown → WroteAll call)
+IsAnswerOf told shown call Done =
+    (is_print call.words ≡ true) × (IsTrue told → IsTrue shown → WroteAll call) × (IsTrue told → IsInForm call)
 IsAnswerOf told shown call Usage = (is_print call.words ≡ false) × (IsTrue shown → WroteNothing call)
 IsAnswerOf told shown call (NotYet node) =
     (is_print call.words ≡ true) × (IsTrue told → IsLeastNotThin call.nodes node) × (IsTrue shown → WroteNothing call)
@@ -66,5 +67,5 @@ pub record IsAnswered (told shown : Bool) (call : PrintCall) (status : ℕ) : Ty
   pub read : status ≡ 4 → (node : ℕ) × RoseAt call.reads_before call.reads_now node
   pub not_yet : IsTrue told → status ≡ 3 → (node : ℕ) × IsLeastNotThin call.nodes node
   pub sink : status ≡ 9 → Rose call.faults_before call.faults_now
-  pub sink_in_form : IsTrue told → status ≡ 9 → IsInForm call
+  pub in_form : IsTrue told → (status ≡ 0) ⊎ (status ≡ 9) → IsInForm call
   pub complete : IsTrue told → is_print call.words ≡ true → IsInForm call → NoneFailed call → (status ≡ 0) ⊎ (status ≡ 8)

@@ -10,4 +10,4 @@ print_logs-requires-clause-nodes g c =
 pub returns-in-Ok-print_logs-clause-answer : goal.returns-in-Ok-print_logs-clause-answer
 returns-in-Ok-print_logs-clause-answer g c =
     let given : command.is_print c.args.words.now ≡ true = search rules in
-    (given, λ told shown. (c.in-Ok.logs, c.in-Ok.ensures.told told, rw c.as_slice.ensures at (c.in-Ok-print_logs.ensures.ok shown)))
+    (given, λ told shown. (c.in-Ok.logs, c.in-Ok.ensures.told told, rw c.as_slice.ensures at (c.in-Ok-print_logs.ensures.ok shown)), λ told. (c.in-Ok.logs, c.in-Ok.ensures.told told))
