@@ -27,6 +27,7 @@ fn header_at(file: &Blob, at: usize) -> Option<Header>
     let mut header = [0; HEADER_LENGTH];
     header.copy_from_slice(&bytes[at..at + HEADER_LENGTH]);
     let header = read_header(&header);
+    // Read once, so that it is known to be a number of 32 bits.
     let _length = header.length;
     Some(header)
 }
@@ -55,6 +56,7 @@ fn part_of(file: &Blob, from: usize, to: usize) -> Result<Blob, Memory>
     ensures bytes { IfOk result (λ part. (i : ℕ) → slice_index part i < 256) }
 {
     let part = file.part(from, to)?;
+    // Read once, so that each is known to be a byte.
     let _bytes = plain_bytes(&part);
     Ok(part)
 }

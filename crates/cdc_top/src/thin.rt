@@ -54,7 +54,6 @@ pub(crate) fn read_thin(alloc: Global, file: &Blob) -> Result<Option<NodeLog>, M
 }
 
 /// A law: two logs of one file in the thin form are equal.
-#[tactic(auto, using(crate::proofs::ThinLemmas::thin_unique))]
 pub fn thin_form_is_unique()
     ensures { ThinFormIsUnique }
 {}
