@@ -160,3 +160,12 @@ pub fn no_rows(alloc: Global) -> RowList
 {
     Items::new(alloc)
 }
+
+/// The bytes `from` to `to` (not included); none where there aren't so many.
+pub fn part(bytes: &[u8], from: usize, to: usize) -> &[u8] {
+    if from <= to && to <= bytes.len() {
+        &bytes[from..to]
+    } else {
+        &[]
+    }
+}

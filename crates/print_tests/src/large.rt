@@ -3,7 +3,8 @@
 ghost use Rattle.std.specs.Prelude.{◌≤◌, ◌^◌};
 
 use crate::build::{
-    add_branch, add_row, add_shared, no_branches, no_rows, printed, shared, transaction, value_row,
+    add_branch, add_row, add_shared, no_branches, no_rows, part, printed, shared, transaction,
+    value_row,
 };
 use cdc_base::Memory;
 use cdc_model::Txn;
@@ -43,19 +44,14 @@ fn a_print_of_the_greatest_size_is_printed_and_a_larger_one_is_refused(
     let names = Names::new(alloc);
     // 38 + 19 + 255 * 2^20 + (19 + last) + 53 + 27 = 2^28
     let last = (1 << 20) - 118 - 38;
+    let first: &[u8] = b"\x05\0\0\0\x02\x01\0\0\0";
+    let xid: &[u8] = b"\x05\0\0\0\x10\x01\0\0\0\x1b\0\0\0\x7b\0\0\x10\0\0\x01\0\0\0\0\0\0\0";
     let greatest = of_large_rows(alloc, 1, last)?.ok_or("id")?;
     let buffer = printed(alloc, &greatest, &names, 123, b"")?;
-    let bytes = buffer.bytes();
     assert_eq!(rt; print_length(&greatest, &names), 268435456);
-    assert_eq!(rt; bytes.len(), 268435456);
-    assert_eq!(rt;
-        bytes.get(..9),
-        Some(b"\x05\0\0\0\x02\x01\0\0\0".as_slice())
-    );
-    assert_eq!(rt;
-        bytes.get(268435456 - 27..),
-        Some(b"\x05\0\0\0\x10\x01\0\0\0\x1b\0\0\0\x7b\0\0\x10\0\0\x01\0\0\0\0\0\0\0".as_slice())
-    );
+    assert_eq!(rt; buffer.len(), 268435456);
+    assert_eq!(rt; part(buffer.bytes(), 0, 9), first);
+    assert_eq!(rt; part(buffer.bytes(), 268435429, 268435456), xid);
     let larger = of_large_rows(alloc, 2, last + 1)?.ok_or("id")?;
     let refused = PrintError::TooLarge {
         number: 2,

@@ -1,10 +1,7 @@
 //! Prints of small transactions.
 
-ghost use Rattle.std.specs.Prelude.{◌≤◌, ◌^◌, length};
-ghost use Rattle.cdc_model.specs.Kept.{IsKeptKey};
-
 use crate::build::{
-    add_branch, add_row, map_of, marked_row, no_branches, no_rows, printed, rule, shared,
+    add_branch, add_row, map_of, marked_row, no_branches, no_rows, part, printed, rule, shared,
     transaction, value_row,
 };
 use cdc_base::{Buffer, Key, Memory};
@@ -30,9 +27,10 @@ const COLUMNS: &[u8] = b"\x01\x03\0\x01";
 const VALUE: &[u8] = b"\x01\0\0\0\0\0\x01\0\x02\0\x01\xff\0\x01\0\0\0";
 
 // A branch with a table map and a row event.
-fn add_rows(alloc: Global, branches: &mut BranchList, key: Key) -> Result<(), Memory>
-    requires { IsKeptKey key }
-{
+fn add_rows(alloc: Global, branches: &mut BranchList) -> Result<(), Memory> {
+    let Some(key) = shared(10, b"g1") else {
+        return Ok(());
+    };
     let mut rows = no_rows(alloc);
     let map = map_of(alloc, b"d1", b"t1", COLUMNS)?;
     add_row(&mut rows, (19, map))?;
@@ -41,29 +39,36 @@ fn add_rows(alloc: Global, branches: &mut BranchList, key: Key) -> Result<(), Me
 }
 
 // A branch with one marked text.
-fn add_text(alloc: Global, branches: &mut BranchList, key: Key, text: &[u8]) -> Result<(), Memory>
-    requires key { IsKeptKey key }
-    requires text { length text.now ≤ 2 ^ 26 }
-{
+fn add_text(alloc: Global, branches: &mut BranchList, text: &[u8]) -> Result<(), Memory> {
+    let Some(key) = shared(10, b"g1") else {
+        return Ok(());
+    };
+    if text.len() > 1000 {
+        return Ok(());
+    }
     let mut rows = no_rows(alloc);
     add_row(&mut rows, marked_row(alloc, text)?)?;
     add_branch(branches, key, rows)
 }
 
-// A shared transaction of branches with these texts, and one of rows behind them where it is asked for.
+// Branches with these texts, and one of rows behind them where it is asked for.
+fn branches_of(alloc: Global, texts: &[&[u8]], rows: bool) -> Result<BranchList, Memory> {
+    let mut branches = no_branches(alloc);
+    for text in texts {
+        add_text(alloc, &mut branches, text)?;
+    }
+    if rows {
+        add_rows(alloc, &mut branches)?;
+    }
+    Ok(branches)
+}
+
+// A shared transaction of such branches.
 fn of_texts(alloc: Global, texts: &[&[u8]], rows: bool) -> Result<Option<Txn>, Memory> {
+    let branches = branches_of(alloc, texts, rows)?;
     let Some(key) = shared(10, b"g1") else {
         return Ok(None);
     };
-    let mut branches = no_branches(alloc);
-    for text in texts {
-        if text.len() <= 1000 {
-            add_text(alloc, &mut branches, key, text)?;
-        }
-    }
-    if rows {
-        add_rows(alloc, &mut branches, key)?;
-    }
     Ok(Some(transaction(1, key, branches)))
 }
 
@@ -87,14 +92,12 @@ fn a_local_transactions_mark_has_node_and_entry(rt: HostRuntime) -> Result<(), F
         node: 1,
         entry: 2,
     };
+    let mark: &[u8] = b"\x36CTS::0000000000000000005::1::0000100000000000000000002";
     let txn = transaction(1, key, no_branches(alloc));
     let buffer = printed(alloc, &txn, &names, 123, b"")?;
     assert_eq!(rt; buffer.len(), 139);
     assert_eq!(rt; print_length(&txn, &names), 139);
-    assert_eq!(rt;
-        buffer.bytes().get(57..112),
-        Some(b"\x36CTS::0000000000000000005::1::0000100000000000000000002".as_slice())
-    );
+    assert_eq!(rt; part(buffer.bytes(), 57, 112), mark);
     Ok(())
 }
 
@@ -134,16 +137,12 @@ fn a_table_is_printed_under_its_new_name(rt: HostRuntime) -> Result<(), Fail> {
     let after = printed(alloc, &txn, &names, 123, b"")?;
     let map = map_of(alloc, b"d1", b"t1", COLUMNS)?;
     let body = rename(&map, &names)?;
-    let maps = (before.bytes().get(57..77), after.bytes().get(57..83));
-    assert_eq!(rt;
-        maps.0,
-        Some(b"\x01\0\0\0\0\0\x01\0\x02d1\0\x02t1\0\x01\x03\0\x01".as_slice())
-    );
-    assert_eq!(rt;
-        maps.1,
-        Some(b"\x01\0\0\0\0\0\x01\0\x04shop\0\x06orders\0\x01\x03\0\x01".as_slice())
-    );
-    assert_eq!(rt; (before.len(), after.len()), (193, 199));
+    let old: &[u8] = b"\x01\0\0\0\0\0\x01\0\x02d1\0\x02t1\0\x01\x03\0\x01";
+    let new: &[u8] = b"\x01\0\0\0\0\0\x01\0\x04shop\0\x06orders\0\x01\x03\0\x01";
+    assert_eq!(rt; part(before.bytes(), 57, 77), old);
+    assert_eq!(rt; part(after.bytes(), 57, 83), new);
+    assert_eq!(rt; before.len(), 193);
+    assert_eq!(rt; after.len(), 199);
     assert_eq!(rt; print_length(&txn, &names), 199);
     assert_eq!(rt; body.encoded_length(), 26);
     Ok(())
@@ -151,18 +150,13 @@ fn a_table_is_printed_under_its_new_name(rt: HostRuntime) -> Result<(), Fail> {
 
 #[test]
 fn a_file_begins_with_its_head(rt: HostRuntime) -> Result<(), Fail> {
+    let front: &[u8] = b"\xfebin\0\0\0\0\x0f\x01\0\0\0\x77\0\0\0\x7b\0\0\0\0\0\x04\x005.7.0-cdc";
+    let back: &[u8] =
+        b"\0\0\0\0\x13\x38\x0d\0\x08\0\x12\0\x04\x04\x04\x04\x12\0\0\x5f\0\x04\x1a\x08\0\0\0\x08\x08\x08\x02\0\0\0\x0a\x0a\x0a\x2a\x2a\0\x12\x34\0\0\0\0\0\0";
     let mut buffer = Buffer::new(rt.alloc());
     write_head(&mut buffer)?;
     assert_eq!(rt; buffer.len(), 123);
-    assert_eq!(rt;
-        buffer.bytes().get(..34),
-        Some(b"\xfebin\0\0\0\0\x0f\x01\0\0\0\x77\0\0\0\x7b\0\0\0\0\0\x04\x005.7.0-cdc".as_slice())
-    );
-    assert_eq!(rt;
-        buffer.bytes().get(75..),
-        Some(
-            b"\0\0\0\0\x13\x38\x0d\0\x08\0\x12\0\x04\x04\x04\x04\x12\0\0\x5f\0\x04\x1a\x08\0\0\0\x08\x08\x08\x02\0\0\0\x0a\x0a\x0a\x2a\x2a\0\x12\x34\0\0\0\0\0\0".as_slice()
-        )
-    );
+    assert_eq!(rt; part(buffer.bytes(), 0, 34), front);
+    assert_eq!(rt; part(buffer.bytes(), 75, 123), back);
     Ok(())
 }
