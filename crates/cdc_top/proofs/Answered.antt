@@ -1,5 +1,5 @@
 -- From an answer to the promises of its status.
-use Rattle.std.proofs.Common.{◌≡◌, ℕ, ◌+◌, ◌≤◌, ◌<◌, ◌⊎◌, Bool, true, false, IsTrue, List, [], ◌∷◌, length, inl, inr, arith, refl, sym, ap, ◌∙◌, subst, ⊎_elim, nat_le, leb}
+use Rattle.std.proofs.Common.{◌≡◌, ℕ, zero, suc, get_or, ◌+◌, ◌-◌, ◌≤◌, ◌<◌, ◌⊎◌, Bool, true, false, IsTrue, List, [], ◌∷◌, length, inl, inr, arith, refl, sym, ap, ◌∙◌, subst, ⊎_elim}
 use Rattle.std.proofs.lemmas.Bool.{cases_lt}
 use Rattle.cdc_outside.specs.Count.{Rose}
 use Rattle.cdc_model.specs.declared.start.NodeLog.{NodeLog}
@@ -13,20 +13,25 @@ use Rattle.cdc_top.specs.Call.{PrintCall, IsInForm, WroteAll, WroteFront, WroteN
 
 -- words can't be a command and none
 no_both : (words : List (List ℕ)) → is_print words ≡ true → is_print words ≡ false → ⊥
-no_both words yes no = let e : true ≡ false = sym yes ∙ no in absurd (cc)
+no_both words given none = let e : true ≡ false = sym given ∙ none in absurd (cc)
 
 -- among logs in the thin form there is none that isn't
-thin_at : (nodes : List (List (List ℕ))) (logs : List NodeLog) (place : ℕ) → AreThinLogs nodes logs → place < length nodes → (log : NodeLog) × IsThinLog (files_of nodes (place + 1)) log
-thin_at nodes logs place all within = ?
+thin_at : (nodes : List (List (List ℕ))) (logs : List NodeLog) (place : ℕ) → AreThinLogs nodes logs → place < length nodes → (log : NodeLog) × IsThinLog (get_or nodes place []) log
+thin_at [] logs place all within = absurd (omega (arith, within))
+thin_at (files ∷ nodes) [] place all within = absurd all
+thin_at (files ∷ nodes) (log ∷ logs) zero all within = (log, all.0)
+thin_at (files ∷ nodes) (log ∷ logs) (suc place) all within = thin_at nodes logs place all.1 (omega (arith, within))
 
-not_both : (told : Bool) (call : PrintCall) (node : ℕ) → IsInForm call → IsLeastNotThin call.nodes node → ⊥
-not_both told call node form least = ?
+not_both : (call : PrintCall) (node : ℕ) → IsInForm call → IsLeastNotThin call.nodes node → ⊥
+not_both call node form least =
+    let thin = thin_at call.nodes form.0 (node - 1) form.1 (omega (arith, least.first, least.last)) in
+    least.not_thin thin.0 thin.1
 
 pub answered : (told shown : Bool) (call : PrintCall) (answer : Answer) → IsAnswerOf told shown call answer → IsAnswered told shown call (status_of answer)
 answered told shown call Done a = record {
   statuses = inl refl;
   usage = λ e. absurd (omega (arith, e));
-  only_usage = λ no. absurd (no_both call.words a.0 no);
+  only_usage = λ none. absurd (no_both call.words a.0 none);
   done = λ t s e. a.1 t s;
   nothing = λ s e. absurd (⊎_elim (λ p. omega (arith, p)) (⊎_elim (λ p. omega (arith, p)) (λ p. omega (arith, p))) e);
   front = λ t s e. absurd (⊎_elim (λ p. omega (arith, p)) (λ p. omega (arith, p)) e);
@@ -34,12 +39,12 @@ answered told shown call Done a = record {
   not_yet = λ t e. absurd (omega (arith, e));
   sink = λ e. absurd (omega (arith, e));
   sink_in_form = λ t e. absurd (omega (arith, e));
-  complete = λ t yes form none. inl refl
+  complete = λ t given form none. inl refl
 }
 answered told shown call Usage a = record {
   statuses = inr (inl refl);
   usage = λ e. a.0;
-  only_usage = λ no. refl;
+  only_usage = λ none. refl;
   done = λ t s e. absurd (omega (arith, e));
   nothing = λ s e. a.1 s;
   front = λ t s e. inl (a.1 s);
@@ -47,12 +52,12 @@ answered told shown call Usage a = record {
   not_yet = λ t e. absurd (omega (arith, e));
   sink = λ e. absurd (omega (arith, e));
   sink_in_form = λ t e. absurd (omega (arith, e));
-  complete = λ t yes form none. absurd (no_both call.words yes a.0)
+  complete = λ t given form none. absurd (no_both call.words given a.0)
 }
 answered told shown call (NotYet node) a = record {
   statuses = inr (inr (inl refl));
   usage = λ e. absurd (omega (arith, e));
-  only_usage = λ no. absurd (no_both call.words a.0 no);
+  only_usage = λ none. absurd (no_both call.words a.0 none);
   done = λ t s e. absurd (omega (arith, e));
   nothing = λ s e. a.2 s;
   front = λ t s e. inl (a.2 s);
@@ -60,12 +65,12 @@ answered told shown call (NotYet node) a = record {
   not_yet = λ t e. (node, a.1 t);
   sink = λ e. absurd (omega (arith, e));
   sink_in_form = λ t e. absurd (omega (arith, e));
-  complete = λ t yes form none. absurd (not_both told call node form (a.1 t))
+  complete = λ t given form none. absurd (not_both call node form (a.1 t))
 }
 answered told shown call (Read node) a = record {
   statuses = inr (inr (inr (inl refl)));
   usage = λ e. absurd (omega (arith, e));
-  only_usage = λ no. absurd (no_both call.words a.0 no);
+  only_usage = λ none. absurd (no_both call.words a.0 none);
   done = λ t s e. absurd (omega (arith, e));
   nothing = λ s e. a.2 s;
   front = λ t s e. inl (a.2 s);
@@ -73,12 +78,12 @@ answered told shown call (Read node) a = record {
   not_yet = λ t e. absurd (omega (arith, e));
   sink = λ e. absurd (omega (arith, e));
   sink_in_form = λ t e. absurd (omega (arith, e));
-  complete = λ t yes form none. absurd (none.0 node a.1)
+  complete = λ t given form none. absurd (none.0 node a.1)
 }
 answered told shown call Memory a = record {
   statuses = inr (inr (inr (inr (inl refl))));
   usage = λ e. absurd (omega (arith, e));
-  only_usage = λ no. absurd (no_both call.words a.0 no);
+  only_usage = λ none. absurd (no_both call.words a.0 none);
   done = λ t s e. absurd (omega (arith, e));
   nothing = λ s e. absurd (⊎_elim (λ p. omega (arith, p)) (⊎_elim (λ p. omega (arith, p)) (λ p. omega (arith, p))) e);
   front = λ t s e. ⊎_elim (λ p. inl p) (λ p. inr (p t)) (a.1 s);
@@ -86,12 +91,12 @@ answered told shown call Memory a = record {
   not_yet = λ t e. absurd (omega (arith, e));
   sink = λ e. absurd (omega (arith, e));
   sink_in_form = λ t e. absurd (omega (arith, e));
-  complete = λ t yes form none. inr refl
+  complete = λ t given form none. inr refl
 }
 answered told shown call Sink a = record {
   statuses = inr (inr (inr (inr (inr refl))));
   usage = λ e. absurd (omega (arith, e));
-  only_usage = λ no. absurd (no_both call.words a.0 no);
+  only_usage = λ none. absurd (no_both call.words a.0 none);
   done = λ t s e. absurd (omega (arith, e));
   nothing = λ s e. absurd (⊎_elim (λ p. omega (arith, p)) (⊎_elim (λ p. omega (arith, p)) (λ p. omega (arith, p))) e);
   front = λ t s e. inr (a.2 t s);
@@ -99,5 +104,5 @@ answered told shown call Sink a = record {
   not_yet = λ t e. absurd (omega (arith, e));
   sink = λ e. a.1;
   sink_in_form = λ t e. a.3 t;
-  complete = λ t yes form none. absurd (none.1 a.1)
+  complete = λ t given form none. absurd (none.1 a.1)
 }
