@@ -1,0 +1,52 @@
+//! The program `cdc`: the top call over real files and the standard streams.
+//!
+//! `cdc print FILE ..` reads one log a node, and writes the transactions of all of them to standard output. What it
+//! answers is `top`'s to say; here the words are read, the files opened and the status handed back.
+#![tactic(auto)]
+
+mod nodes;
+mod words;
+
+use crate::nodes::open_nodes;
+use crate::words::words_of;
+use cdc_base::Memory;
+use cdc_files::{StdSink, StdStream};
+use cdc_outside::Sink;
+use cdc_top::top;
+use std::alloc::Global;
+use std::fs::Files;
+use std::io::Write;
+use std::process::ExitCode;
+use std::rt::Env;
+
+/// The status where there was no memory.
+const NO_MEMORY: u8 = 8;
+
+/// Answers the words of the command line.
+fn answer<R: AllocGlobal + Env + Files, W: Write + Drop>(
+    rt: &R,
+    out: &mut StdSink<W>,
+    err: &mut StdSink<W>,
+) -> Result<u8, Memory> {
+    let words = words_of(rt)?;
+    let mut nodes = open_nodes(rt, words.as_slice())?;
+    Ok(top(rt.alloc(), words.as_slice(), &mut nodes, out, err))
+}
+
+/// The status, where there was memory for one; else a line is written.
+fn status_of<K: Sink>(answer: Result<u8, Memory>, err: &mut K) -> u8 {
+    match answer {
+        Ok(status) => status,
+        Err(Memory) => {
+            let _written = err.write(b"cdc: memory\n");
+            NO_MEMORY
+        }
+    }
+}
+
+fn main(rt: HostRuntime) -> ExitCode {
+    let mut out = StdSink::new(StdStream::Out(rt.stdout()));
+    let mut err = StdSink::new(StdStream::Err(rt.stderr()));
+    let answer = answer(&rt, &mut out, &mut err);
+    ExitCode::from(status_of(answer, &mut err))
+}

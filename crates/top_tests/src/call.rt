@@ -1,0 +1,127 @@
+//! Calls of the top call, and what they gave.
+
+use crate::pieces::{Piece, log_of, printed};
+use cdc_base::{Blob, Buffer, Memory, Text, TextList};
+use cdc_memory::{MemSink, MemSource};
+use cdc_top::{is_print, top};
+use std::alloc::Global;
+
+/// The most bytes of a file and of what is written.
+pub const ROOM: usize = 2_000_000;
+
+/// A call: its sources, the room of `out`, and the writes to it that fail.
+#[derive(Drop)]
+pub struct Call {
+    pub nodes: Vec<MemSource>,
+    pub room: usize,
+    pub out_fails: Vec<u64>,
+    pub err_room: usize,
+}
+
+/// What a call answered and wrote.
+#[derive(Drop)]
+pub struct Seen {
+    pub status: u8,
+    pub out: MemSink,
+    pub err: MemSink,
+}
+
+impl Seen {
+    /// Whether this was answered and written.
+    pub fn is(&self, status: u8, out: &[u8], line: &[u8]) -> bool {
+        self.status == status && self.out.written() == out && self.err.written() == line
+    }
+}
+
+/// A call over these sources, whose sinks don't fail.
+pub fn call_of(alloc: Global, nodes: Vec<MemSource>) -> Call {
+    Call {
+        nodes,
+        room: ROOM,
+        out_fails: Vec::new(alloc),
+        err_room: 100,
+    }
+}
+
+/// A source of one file, whose listed calls fail.
+pub fn source_of(alloc: Global, file: &[u8], fails: &[u64]) -> Result<MemSource, Memory> {
+    if file.len() > ROOM {
+        return Err(Memory);
+    }
+    let mut bytes = Buffer::new(alloc);
+    bytes.push(file)?;
+    MemSource::new(alloc, &[bytes.freeze()?], fails)
+}
+
+/// The words of a command, in their order.
+pub fn words_of(alloc: Global, texts: &[&str]) -> Result<TextList, Memory> {
+    let mut words = TextList::new(alloc);
+    for text in texts {
+        words.push(Text::of(alloc, text)?)?;
+    }
+    Ok(words)
+}
+
+/// `print` and so many files.
+pub fn print_words(alloc: Global, files: usize) -> Result<TextList, Memory> {
+    let mut words = TextList::new(alloc);
+    words.push(Text::of(alloc, "print")?)?;
+    for _file in 0..files {
+        words.push(Text::of(alloc, "n")?)?;
+    }
+    Ok(words)
+}
+
+/// Calls with any words. Where they are `print`, there is to be a source a file.
+pub fn call_with(alloc: Global, words: &[Text], call: Call) -> Result<Seen, Memory> {
+    let mut nodes = call.nodes;
+    if is_print(words) && nodes.len().checked_add(1) != Some(words.len()) {
+        return Err(Memory);
+    }
+    let mut out = MemSink::new(alloc, call.room, call.out_fails.as_slice())?;
+    let mut err = MemSink::new(alloc, call.err_room, &[])?;
+    let status = top(alloc, words, &mut nodes, &mut out, &mut err);
+    Ok(Seen { status, out, err })
+}
+
+/// Prints all sources of a call.
+pub fn print_all(alloc: Global, call: Call) -> Result<Seen, Memory> {
+    let words = print_words(alloc, call.nodes.len())?;
+    call_with(alloc, words.as_slice(), call)
+}
+
+/// Prints the log of one node.
+pub fn print_one(alloc: Global, file: &[u8]) -> Result<Seen, Memory> {
+    let mut nodes = Vec::new(alloc);
+    nodes.push(source_of(alloc, file, &[])?)?;
+    print_all(alloc, call_of(alloc, nodes))
+}
+
+/// Sources of these logs, one a node.
+pub fn sources_of(alloc: Global, logs: &[&[Piece]]) -> Result<Vec<MemSource>, Memory> {
+    let mut nodes = Vec::new(alloc);
+    for pieces in logs {
+        let log = log_of(alloc, pieces)?;
+        nodes.push(source_of(alloc, log.bytes(), &[])?)?;
+    }
+    Ok(nodes)
+}
+
+/// Logs of nodes, and what printing them gives.
+#[derive(Clone, Copy)]
+pub struct Case<'a> {
+    /// The pieces of each node's log.
+    pub logs: &'a [&'a [Piece<'a>]],
+    pub status: u8,
+    /// The marks of the transactions that are printed.
+    pub marks: &'a [&'a [u8]],
+    pub line: &'a [u8],
+}
+
+/// Whether the logs of a case give what it says.
+pub fn holds(alloc: Global, case: &Case) -> Result<bool, Memory> {
+    let nodes = sources_of(alloc, case.logs)?;
+    let want = printed(alloc, case.marks)?;
+    let seen = print_all(alloc, call_of(alloc, nodes))?;
+    Ok(seen.is(case.status, want.bytes(), case.line))
+}

@@ -1,0 +1,53 @@
+//! The words of the command line.
+
+use crate::call::{call_of, call_with, print_words, sources_of, words_of};
+use crate::pieces::Piece;
+use std::test::Fail;
+
+#[test]
+fn words_that_are_no_command_are_refused(rt: HostRuntime) -> Result<(), Fail> {
+    let cases: [&[&str]; 10] = [
+        &[],
+        &["print"],
+        &["print", "-x"],
+        &["print", ""],
+        &["print", "n1", "-x"],
+        &["prints", "n1"],
+        &["PRINT", "n1"],
+        &["", "n1"],
+        &["--help"],
+        &["run", "n1"],
+    ];
+    for (number, texts) in cases.iter().enumerate() {
+        let words = words_of(rt.alloc(), texts)?;
+        let call = call_of(rt.alloc(), Vec::new(rt.alloc()));
+        let seen = call_with(rt.alloc(), words.as_slice(), call)?;
+        assert!(rt; seen.is(2, b"", b"cdc: usage\n"), "words {number}");
+    }
+    Ok(())
+}
+
+#[test]
+fn no_more_than_256_files_are_taken(rt: HostRuntime) -> Result<(), Fail> {
+    let words = print_words(rt.alloc(), 257)?;
+    let call = call_of(rt.alloc(), Vec::new(rt.alloc()));
+    let seen = call_with(rt.alloc(), words.as_slice(), call)?;
+    assert!(rt; seen.is(2, b"", b"cdc: usage\n"));
+    Ok(())
+}
+
+// The answer doesn't change where its line can't be written.
+#[test]
+fn a_line_that_cannot_be_written_is_let_be(rt: HostRuntime) -> Result<(), Fail> {
+    let mut call = call_of(rt.alloc(), Vec::new(rt.alloc()));
+    call.err_room = 10;
+    let seen = call_with(rt.alloc(), &[], call)?;
+    assert!(rt; seen.is(2, b"", b"") && seen.err.faults() == 1);
+    let logs: [&[Piece]; 1] = [&[Piece::Head, Piece::Local]];
+    let mut call = call_of(rt.alloc(), sources_of(rt.alloc(), &logs)?);
+    call.err_room = 0;
+    let words = print_words(rt.alloc(), 1)?;
+    let seen = call_with(rt.alloc(), words.as_slice(), call)?;
+    assert!(rt; seen.is(3, b"", b"") && seen.err.faults() == 1);
+    Ok(())
+}
