@@ -15,7 +15,7 @@ use Rattle.cdc_model.specs.declared.entry.EntryKind.{EntryKind}
 use Rattle.cdc_model.specs.declared.entry.EntryKind.TheVariants.{Prepare, OnePhase, Commit, Rollback, Plain, Beat}
 use Rattle.cdc_model.specs.declared.fault.SortFault.TheVariants.{DoublePrepare, UnknownBranch, Undercut}
 use Rattle.cdc_model.specs.declared.start.NodeLog.{NodeLog}
-use Rattle.cdc_model.specs.Records.{Row, LogEntry, Transaction}
+use Rattle.cdc_model.specs.Records.{Row, LogEntry, CommittedBranch, Transaction}
 use Rattle.cdc_model.specs.Start.{beginning, left}
 use Rattle.cdc_model.specs.Watermark.{node_low_water_mark}
 use Rattle.cdc_model.specs.Soundness.{sort_fault}
@@ -165,6 +165,26 @@ one_phase = refl
 one_phase_faults : map (λ kinds. sort_fault beginning (map (at 7) kinds)) ((Beat 10 ∷ OnePhase (id 1) [] 10 5 ∷ []) ∷ (prepare 1 ∷ OnePhase (id 1) [] 10 5 ∷ []) ∷ (prepare 2 ∷ OnePhase (id 1) [] 10 5 ∷ []) ∷ []) ≡ Some (record { file = 1; at = 7 }, Undercut 10 10) ∷ Some (record { file = 1; at = 7 }, DoublePrepare (id 1)) ∷ None ∷ []
 unfolding low_first header_bytes body_bytes encode_with digits mark_text statement_in post_headers file_head file_name rotate_event
 one_phase_faults = refl
+
+-- and which brings its timestamp
+one_phase_mark : mark_behind 1 (OnePhase (id 1) [] 10 5 ∷ []) ≡ 10
+one_phase_mark = refl
+
+-- what stands behind a fault is not read
+nothing_behind_a_fault :
+    keys (settled_transactions [] 0 first_key (log (prepare 1 ∷ commit 1 10 ∷ prepare 2 ∷ commit 2 10 ∷ prepare 3 ∷ commit 3 40 ∷ []) ∷ [])) ≡ Shared 10 (id 1).gtrid ∷ []
+unfolding low_first header_bytes body_bytes encode_with digits mark_text statement_in
+nothing_behind_a_fault = refl
+
+-- a second branch of the first transaction on the same node
+abbrev other_branch : Xid
+other_branch = record { gtrid = (id 1).gtrid; bqual = 1 ∷ []; format = 1 }
+
+-- branches of one node stand by the number of the entry that committed them
+branches_by_entry :
+    map (λ (txn : Transaction). map (λ (branch : CommittedBranch). branch.entry) txn.branches) (settled_transactions [] 0 first_key (log (prepare 1 ∷ Prepare other_branch [] ∷ Commit other_branch 10 5 ∷ commit 1 10 ∷ []) ∷ [])) ≡ (3 ∷ 4 ∷ []) ∷ []
+unfolding low_first header_bytes body_bytes encode_with digits mark_text statement_in
+branches_by_entry = refl
 
 -- a branch qualifier and a format tell branches apart
 other_branches : sort_fault beginning (map (at 0) (prepare 1 ∷ Prepare record { gtrid = (id 1).gtrid; bqual = 1 ∷ []; format = 1 } [] ∷ Prepare record { gtrid = (id 1).gtrid; bqual = []; format = 2 } [] ∷ [])) ≡ None
