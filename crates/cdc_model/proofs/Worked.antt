@@ -234,6 +234,11 @@ rotated : map length (files_of [] 256 (transactions three)) ≡ 399 ∷ 241 ∷ 
 unfolding low_first header_bytes body_bytes encode_with digits mark_text statement_in post_headers file_head file_name rotate_event
 rotated = refl
 
+-- and its last event names the next file
+rotated_to : map (drop 386) (files_of [] 256 (transactions three)) ≡ codes "binlog.000002" ∷ [] ∷ []
+unfolding low_first header_bytes body_bytes encode_with digits mark_text statement_in post_headers file_head file_name rotate_event
+rotated_to = refl
+
 -- where the output stands then, and one transaction earlier
 rotated_layouts : layout_of [] 256 (transactions three) ∷ layout_of [] 256 (transactions (take 4 three)) ∷ layout_of [] 256 [] ∷ [] ≡ record { file = 2; length = 241; closed = false } ∷ record { file = 1; length = 399; closed = true } ∷ record { file = 0; length = 0; closed = false } ∷ []
 unfolding low_first header_bytes body_bytes encode_with digits mark_text statement_in post_headers file_head file_name rotate_event
