@@ -1,4 +1,4 @@
-//! Whole events of the format: read, shared and written back to the same bytes.
+//! Whole events of the format: read and written back to the same bytes; that sharing succeeds.
 
 ghost use Rattle.std.specs.Prelude.{IfOk};
 ghost use Rattle.cdc_event.specs.Event.{IsEvent};
