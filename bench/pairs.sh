@@ -5,7 +5,8 @@
 # each is run (5 if left out; the least time counts). For logs of 64, 512 and 4,096 pairs a line gives the bytes of
 # the log and of the file, the milliseconds and peak KiB of `print`, the milliseconds of reading alone (the same log
 # and one zero byte, which isn't in form), the milliseconds of `yard print -r 1` on the log, and the ratio of the two.
-# The files of both have to be equal, and the peak is to be at most 6 times the log and 32 MiB; else the status is 1.
+# The peak is that of one run more under the program `time`, where there is one. The files of both have to be equal,
+# and the peak is to be at most 6 times the log and 32 MiB; else the status is 1.
 set -eu
 
 if [ $# -lt 2 ]; then
@@ -19,6 +20,7 @@ for pairs in 64 512 4096; do
     python3 "$2/pairs.py" "$pairs" > "$room/log"
     python3 - "$1" "$2/yard" "$room" "$pairs" "${3:-5}" <<'PYTHON' || status=1
 import os
+import shutil
 import subprocess
 import sys
 import time
@@ -43,6 +45,16 @@ def measure(words, into):
     return best, peak, answers
 
 
+def peak_of(words, inherited):
+    """The peak KiB of one run more, without what a child takes over from this process."""
+    timer = shutil.which("time")
+    if timer is None:
+        return inherited
+    told = os.path.join(room, "peak")
+    subprocess.run([timer, "-f", "%M", "-o", told, *words], stdout=subprocess.DEVNULL, check=True)
+    return int(bytes_of(told))
+
+
 def bytes_of(path):
     with open(path, "rb") as source:
         return source.read()
@@ -54,6 +66,7 @@ out, other, none = (os.path.join(room, name) for name in ("out", "other", "none"
 printing, peak, answers = measure([program, "print", log], out)
 reading, _, refusals = measure([program, "print", longer], none)
 hand, _, hand_answers = measure([yard, "print", "-r", "1", log], other)
+peak = peak_of([program, "print", log], peak)
 size, most = os.path.getsize(log), 6 * os.path.getsize(log) / 1024 + 32 * 1024
 print(f"{pairs} pairs: log {size} B, file {os.path.getsize(out)} B, print {1000 * printing:.1f} ms, peak {peak} KiB, "
       f"reading alone {1000 * reading:.1f} ms, yardstick {1000 * hand:.1f} ms, ratio {printing / hand:.1f}")

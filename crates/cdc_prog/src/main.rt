@@ -4,6 +4,8 @@
 //! answers is `top`'s to say; here the words are read, the files opened and the status handed back.
 #![tactic(auto)]
 
+ghost use Rattle.std.specs.Prelude.{◌≡◌, IfOk, IfErr};
+
 mod nodes;
 mod words;
 
@@ -34,7 +36,10 @@ fn answer<R: AllocGlobal + Env + Files, W: Write + Drop>(
 }
 
 /// The status, where there was memory for one; else a line is written.
-fn status_of<K: Sink>(answer: Result<u8, Memory>, err: &mut K) -> u8 {
+fn status_of<K: Sink>(answer: Result<u8, Memory>, err: &mut K) -> u8
+    ensures answered { IfOk answer (λ status. result ≡ status) }
+    ensures memory { IfErr answer (λ _. result ≡ 8) }
+{
     match answer {
         Ok(status) => status,
         Err(Memory) => {

@@ -1,5 +1,7 @@
 //! The words of the command line.
 
+ghost use Rattle.std.specs.Prelude.{◌≡◌, [], IfOk};
+
 use cdc_base::{Memory, Text, TextList};
 use std::alloc::Global;
 use std::env;
@@ -25,7 +27,9 @@ fn texts_of(alloc: Global, args: Args) -> Result<TextList, Memory> {
 }
 
 /// No words, or `Memory` where that was why there are none.
-fn without_words(alloc: Global, error: &Error) -> Result<TextList, Memory> {
+fn without_words(alloc: Global, error: &Error) -> Result<TextList, Memory>
+    ensures { IfOk result (λ words. words ≡ []) }
+{
     match error.kind() {
         ErrorKind::OutOfMemory => Err(Memory),
         _ => Ok(TextList::new(alloc)),

@@ -28,7 +28,13 @@ fn nodes_with(
 }
 
 // Prints the logs of `count` nodes, of which one fails at one call.
-fn print_failing(alloc: Global, log: &[u8], count: u32, node: u32, call: u64) -> Result<Seen, Memory> {
+fn print_failing(
+    alloc: Global,
+    log: &[u8],
+    count: u32,
+    node: u32,
+    call: u64,
+) -> Result<Seen, Memory> {
     let nodes = nodes_with(alloc, log, count, node, &[call])?;
     print_all(alloc, call_of(alloc, nodes))
 }
@@ -40,9 +46,15 @@ fn a_source_that_fails_is_told(rt: HostRuntime) -> Result<(), Fail> {
     let log = log_of(rt.alloc(), &pair)?;
     for call in 1..=3u64 {
         let seen = print_failing(rt.alloc(), log.bytes(), 2, 1, call)?;
-        assert!(rt; seen.is(4, b"", b"cdc: read node 1\n"), "node 1, call {call}");
+        assert!(rt;
+            seen.is(4, b"", b"cdc: read node 1\n"),
+            "node 1, call {call}"
+        );
         let seen = print_failing(rt.alloc(), log.bytes(), 2, 2, call)?;
-        assert!(rt; seen.is(4, b"", b"cdc: read node 2\n"), "node 2, call {call}");
+        assert!(rt;
+            seen.is(4, b"", b"cdc: read node 2\n"),
+            "node 2, call {call}"
+        );
     }
     let seen = print_failing(rt.alloc(), log.bytes(), 2, 2, 4)?;
     assert_eq!(rt; seen.status, 0);
@@ -73,7 +85,10 @@ fn print_to(alloc: Global, log: &[u8], room: usize, fails: &[u64]) -> Result<See
 fn is_front(seen: &Seen, whole: &[u8], least: usize) -> bool {
     let written = seen.out.written();
     let front = whole.starts_with(written) && written.len() < whole.len();
-    front && written.len() >= least && seen.status == 9 && seen.err.written() == b"cdc: sink\n".as_slice()
+    front
+        && written.len() >= least
+        && seen.status == 9
+        && seen.err.written() == b"cdc: sink\n".as_slice()
 }
 
 // 600 pairs print 73,323 bytes, which leave in two writes, the first of at least 65,536.
@@ -93,7 +108,10 @@ fn a_sink_that_fails_is_told(rt: HostRuntime) -> Result<(), Fail> {
     for (number, (room, fails, least)) in cases.iter().enumerate() {
         let seen = print_to(rt.alloc(), log.bytes(), *room, fails)?;
         let faults = seen.out.faults() == 1;
-        assert!(rt; faults && is_front(&seen, whole.out.written(), *least), "sink {number}");
+        assert!(rt;
+            faults && is_front(&seen, whole.out.written(), *least),
+            "sink {number}"
+        );
     }
     Ok(())
 }

@@ -51,13 +51,21 @@ fn a_log_in_the_thin_form_is_printed_and_no_other(rt: HostRuntime) -> Result<(),
         (&[], 0, &[]),
         (&[head], 0, &[]),
         (&[head, prepare, commit], 0, &[MARK]),
-        (&[head, prepare, commit, other, other_commit], 0, &[MARK, second]),
+        (
+            &[head, prepare, commit, other, other_commit],
+            0,
+            &[MARK, second],
+        ),
         (&[head, prepare], 3, &[]),
         (&[head, commit], 3, &[]),
         (&[head, prepare, commit, commit], 3, &[]),
         (&[head, prepare, other, commit, other_commit], 3, &[]),
         (&[head, prepare, other_commit], 3, &[]),
-        (&[head, prepare, commit, other, Piece::Commit(b"g2", 10)], 3, &[]),
+        (
+            &[head, prepare, commit, other, Piece::Commit(b"g2", 10)],
+            3,
+            &[],
+        ),
         (&[head, prepare, Piece::Commit(b"g1", 0)], 3, &[]),
         (&[head, Piece::Local], 3, &[]),
         (&[head, Piece::Beat(10)], 3, &[]),
@@ -66,13 +74,20 @@ fn a_log_in_the_thin_form_is_printed_and_no_other(rt: HostRuntime) -> Result<(),
         (&[prepare, commit], 3, &[]),
     ];
     for (number, (pieces, status, marks)) in cases.iter().enumerate() {
-        let line: &[u8] = if *status == 3 { b"cdc: node 1 not yet\n" } else { b"" };
-        let good = holds(rt.alloc(), &Case {
-            logs: &[*pieces],
-            status: *status,
-            marks: *marks,
-            line,
-        })?;
+        let line: &[u8] = if *status == 3 {
+            b"cdc: node 1 not yet\n"
+        } else {
+            b""
+        };
+        let good = holds(
+            rt.alloc(),
+            &Case {
+                logs: &[*pieces],
+                status: *status,
+                marks: *marks,
+                line,
+            },
+        )?;
         assert!(rt; good, "log {number}");
     }
     Ok(())

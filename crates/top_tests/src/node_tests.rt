@@ -7,63 +7,75 @@ use cdc_memory::MemSource;
 use std::alloc::Global;
 use std::test::Fail;
 
+const HEAD: &[Piece] = &[Piece::Head];
+
+const FIRST: &[Piece] = &[Piece::Head, Piece::Prepare(b"g1"), Piece::Commit(b"g1", 10)];
+
+const TIED: &[Piece] = &[Piece::Head, Piece::Prepare(b"g2"), Piece::Commit(b"g2", 10)];
+
+const LATER: &[Piece] = &[
+    Piece::Head,
+    Piece::Prepare(b"g3"),
+    Piece::Commit(b"g3", 9),
+    Piece::Prepare(b"g4"),
+    Piece::Commit(b"g4", 20),
+];
+
+const LOCAL: &[Piece] = &[Piece::Head, Piece::Local];
+
+const BEAT: &[Piece] = &[Piece::Head, Piece::Beat(1)];
+
+const ONE: &[u8] = b"CTS::0000000000000000010::0::6731";
+
+const TWO: &[u8] = b"CTS::0000000000000000010::0::6732";
+
+const THREE: &[u8] = b"CTS::0000000000000000009::0::6733";
+
+const FOUR: &[u8] = b"CTS::0000000000000000020::0::6734";
+
+// The tables of cases, by what they show.
+const SETTLED: [(&[&[Piece]], &[&[u8]]); 8] = [
+    (&[FIRST, FIRST], &[ONE]),
+    (&[FIRST, TIED], &[ONE, TWO]),
+    (&[TIED, FIRST], &[ONE, TWO]),
+    (&[FIRST, HEAD], &[]),
+    (&[&[], FIRST], &[]),
+    (&[LATER, TIED], &[THREE, TWO]),
+    (&[FIRST, LATER, TIED], &[THREE, ONE, TWO]),
+    (&[LATER, LATER], &[THREE, FOUR]),
+];
+
+const OUT_OF_FORM: [(&[&[Piece]], &[u8]); 4] = [
+    (&[FIRST, LOCAL, BEAT], b"cdc: node 2 not yet\n"),
+    (&[BEAT, LOCAL, FIRST], b"cdc: node 1 not yet\n"),
+    (&[FIRST, FIRST, BEAT], b"cdc: node 3 not yet\n"),
+    (&[FIRST, LOCAL], b"cdc: node 2 not yet\n"),
+];
+
 #[test]
 fn the_least_mark_of_all_nodes_settles(rt: HostRuntime) -> Result<(), Fail> {
-    let head: &[Piece] = &[Piece::Head];
-    let first: &[Piece] = &[Piece::Head, Piece::Prepare(b"g1"), Piece::Commit(b"g1", 10)];
-    let tied: &[Piece] = &[Piece::Head, Piece::Prepare(b"g2"), Piece::Commit(b"g2", 10)];
-    let later: &[Piece] = &[
-        Piece::Head,
-        Piece::Prepare(b"g3"),
-        Piece::Commit(b"g3", 9),
-        Piece::Prepare(b"g4"),
-        Piece::Commit(b"g4", 20),
-    ];
-    let one: &[u8] = b"CTS::0000000000000000010::0::6731";
-    let two: &[u8] = b"CTS::0000000000000000010::0::6732";
-    let three: &[u8] = b"CTS::0000000000000000009::0::6733";
-    let four: &[u8] = b"CTS::0000000000000000020::0::6734";
-    let cases: [(&[&[Piece]], &[&[u8]]); 8] = [
-        (&[first, first], &[one]),
-        (&[first, tied], &[one, two]),
-        (&[tied, first], &[one, two]),
-        (&[first, head], &[]),
-        (&[&[], first], &[]),
-        (&[later, tied], &[three, two]),
-        (&[first, later, tied], &[three, one, two]),
-        (&[later, later], &[three, four]),
-    ];
-    for (number, (logs, marks)) in cases.iter().enumerate() {
-        let good = holds(rt.alloc(), &Case {
-            logs: *logs,
+    for (logs, marks) in SETTLED {
+        let case = Case {
+            logs,
             status: 0,
-            marks: *marks,
+            marks,
             line: b"",
-        })?;
-        assert!(rt; good, "logs {number}");
+        };
+        assert!(rt; holds(rt.alloc(), &case)?);
     }
     Ok(())
 }
 
 #[test]
 fn the_least_node_out_of_form_is_named(rt: HostRuntime) -> Result<(), Fail> {
-    let pair: &[Piece] = &[Piece::Head, Piece::Prepare(b"g1"), Piece::Commit(b"g1", 10)];
-    let local: &[Piece] = &[Piece::Head, Piece::Local];
-    let beat: &[Piece] = &[Piece::Head, Piece::Beat(1)];
-    let cases: [(&[&[Piece]], &[u8]); 4] = [
-        (&[pair, local, beat], b"cdc: node 2 not yet\n"),
-        (&[beat, local, pair], b"cdc: node 1 not yet\n"),
-        (&[pair, pair, beat], b"cdc: node 3 not yet\n"),
-        (&[pair, local], b"cdc: node 2 not yet\n"),
-    ];
-    for (number, (logs, line)) in cases.iter().enumerate() {
-        let good = holds(rt.alloc(), &Case {
-            logs: *logs,
+    for (logs, line) in OUT_OF_FORM {
+        let case = Case {
+            logs,
             status: 3,
             marks: &[],
-            line: *line,
-        })?;
-        assert!(rt; good, "logs {number}");
+            line,
+        };
+        assert!(rt; holds(rt.alloc(), &case)?);
     }
     Ok(())
 }
@@ -71,7 +83,10 @@ fn the_least_node_out_of_form_is_named(rt: HostRuntime) -> Result<(), Fail> {
 // A source of one pair at 7, whose id is one byte.
 fn one_pair(alloc: Global, id: u8) -> Result<MemSource, Memory> {
     let id = [id];
-    let log = log_of(alloc, &[Piece::Head, Piece::Prepare(&id), Piece::Commit(&id, 7)])?;
+    let log = log_of(
+        alloc,
+        &[Piece::Head, Piece::Prepare(&id), Piece::Commit(&id, 7)],
+    )?;
     source_of(alloc, log.bytes(), &[])
 }
 

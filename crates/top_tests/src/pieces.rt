@@ -43,12 +43,7 @@ fn four_bytes(length: usize) -> [u8; 4] {
 }
 
 // One event more: the four bytes of its seconds and those of its server, its type and its body.
-fn push_event(
-    log: &mut Buffer,
-    server: u8,
-    kind: u8,
-    body: &[u8],
-) -> Result<(), Memory> {
+fn push_event(log: &mut Buffer, server: u8, kind: u8, body: &[u8]) -> Result<(), Memory> {
     let length = body.len().saturating_add(19);
     let next = log.len().saturating_add(length);
     log.push(&[5, 0, 0, 0, kind, server, 0, 0, 0])?;
@@ -106,7 +101,12 @@ fn push_prepare(alloc: Global, log: &mut Buffer, id: &[u8]) -> Result<(), Memory
 }
 
 // A timestamp event.
-fn push_timestamp(alloc: Global, log: &mut Buffer, class: u8, timestamp: u64) -> Result<(), Memory> {
+fn push_timestamp(
+    alloc: Global,
+    log: &mut Buffer,
+    class: u8,
+    timestamp: u64,
+) -> Result<(), Memory> {
     let mut body = Buffer::new(alloc);
     body.push(&[class])?;
     body.push(&timestamp.to_le_bytes())?;
