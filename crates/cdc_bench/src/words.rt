@@ -1,0 +1,55 @@
+//! The words of the command line.
+
+ghost use Rattle.std.specs.Prelude.{◌≤◌, ◌^◌, IfSome};
+
+use crate::rows::LOG_MAX;
+use cdc_base::{Memory, Text, TextList};
+use cdc_event::HEADER_LENGTH;
+use std::env;
+use std::rt::Env;
+
+/// What is timed: the reading of row events.
+#[derive(Clone, Copy, Debug)]
+pub struct Work {
+    /// The bytes of each event, header included.
+    pub size: u32,
+    /// How many events are read.
+    pub count: u64,
+}
+
+/// The words behind the program's name: none where they can't be had.
+pub fn words_of<R: AllocGlobal + Env>(rt: &R) -> Result<TextList, Memory> {
+    let mut words = TextList::new(rt.alloc());
+    if let Ok(args) = env::args(rt) {
+        for word in args.skip(1) {
+            words.push(Text::of(rt.alloc(), &word)?)?;
+        }
+    }
+    Ok(words)
+}
+
+/// The size of an event, in figures: at least a header, and at most a log.
+fn size_of(word: &str) -> Option<u32>
+    ensures least { IfSome result (λ size. 19 ≤ size) }
+    ensures most { IfSome result (λ size. size ≤ 2 ^ 26) }
+{
+    match word.parse::<u32>() {
+        Ok(size) if size >= HEADER_LENGTH as u32 && size <= LOG_MAX => Some(size),
+        _ => None,
+    }
+}
+
+/// What the words ask for: `read`, `row`, an event's size and how many of them. None for any others.
+pub fn work_of(words: &[Text]) -> Option<Work>
+    ensures least { IfSome result (λ work. 19 ≤ work.size) }
+    ensures most { IfSome result (λ work. work.size ≤ 2 ^ 26) }
+{
+    match words {
+        [what, which, size, count] if what.as_str() == "read" && which.as_str() == "row" => {
+            let size = size_of(size.as_str())?;
+            let count = count.as_str().parse::<u64>().ok()?;
+            Some(Work { size, count })
+        }
+        _ => None,
+    }
+}
