@@ -1,7 +1,7 @@
 //! Calls of the top call, and what they gave.
 
 use crate::pieces::{Piece, log_of, printed};
-use cdc_base::{Blob, Buffer, Memory, Text, TextList};
+use cdc_base::{Buffer, Memory, Text, TextList};
 use cdc_memory::{MemSink, MemSource};
 use cdc_top::{is_print, top};
 use std::alloc::Global;
@@ -9,7 +9,7 @@ use std::alloc::Global;
 /// The most bytes of a file and of what is written.
 pub const ROOM: usize = 2_000_000;
 
-/// A call: its sources, the room of `out`, and the writes to it that fail.
+/// A call: its sources, the room of `out`, the writes to it that fail, and the room of `err`.
 #[derive(Drop)]
 pub struct Call {
     pub nodes: Vec<MemSource>,

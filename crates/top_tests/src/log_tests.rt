@@ -132,7 +132,7 @@ fn a_log_has_at_most_4096_pairs(rt: HostRuntime) -> Result<(), Fail> {
     Ok(())
 }
 
-// Prints the log of a source of this many empty files.
+// Prints the log of a source of two empty files, or of none: the status, and how many bytes were written.
 fn print_files(alloc: Global, two: bool) -> Result<(u8, usize), Memory> {
     let mut nodes = Vec::new(alloc);
     let source = if two {

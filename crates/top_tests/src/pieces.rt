@@ -150,8 +150,7 @@ pub fn push_pair(alloc: Global, log: &mut Buffer, id: &[u8], timestamp: u64) -> 
     push_piece(alloc, log, Piece::Commit(id, timestamp))
 }
 
-/// A log of so many pairs, whose ids are the numbers from 1 in 4 bytes, the greatest first, and the timestamps
-/// too.
+/// A log of so many pairs, whose ids are the numbers from 0 in 4 bytes, and whose timestamps are those from 1.
 pub fn many_pairs(alloc: Global, count: u32) -> Result<Buffer, Memory> {
     let mut log = Buffer::new(alloc);
     push_piece(alloc, &mut log, Piece::Head)?;
