@@ -10,7 +10,7 @@ use Rattle.cdc_model.specs.Records.{LogEntry}
 use Rattle.cdc_model.specs.Start.{beginning}
 use Rattle.cdc_model.specs.Soundness.{sound_entries}
 use Rattle.cdc_top.specs.Thin.{Pair, IsLogEvent, pair_events, pair_length, entries_from, log_of, HasPairs, IsThinFile}
-use Rattle.cdc_top.specs.ThinReading.{AreFewEventsOf, NoEventsOf, is_plain_format, entries_of, file_entries, HasEntries, HasNoPairs, HasNoRows}
+use Rattle.cdc_top.specs.ThinReading.{AreFewEventsOf, NoEventsOf, is_plain_format, entries_of, file_entries, HasEntries, HasNoPairs}
 use Rattle.cdc_top.proofs.EventLists.{same_events, nothing_left}
 use Rattle.cdc_top.proofs.PairLists.{format_is, format_found, entries_found, ArePairs, entries_are}
 
@@ -158,19 +158,3 @@ not_sound file entries log count h e sound l other (inr g) =
     let own : sound_entries log.start log.entries ≡ log.entries = subst (λ (v : NodeLog). sound_entries v.start v.entries ≡ v.entries) (sym e) whole in
     let sizes : length (take count log.entries) ≡ length log.entries = ap length (sound ∙ own) in
     absurd (omega (arith, length-take count log.entries))
-
-pub thin_few : (file : List ℕ) (log : NodeLog) → IsThinFile file log → length log.entries ≤ 8192
-thin_few file log (inl x) = let none : length log.entries ≡ 0 = ap (λ (v : NodeLog). length v.entries) x.1 in omega arith
-thin_few file log (inr h) = few_entries file log.entries (has_entries file log h)
-
-pub thin_begins : (file : List ℕ) (log : NodeLog) → IsThinFile file log → log.start ≡ beginning
-thin_begins file log (inl x) = ap (λ (v : NodeLog). v.start) x.1
-thin_begins file log (inr h) = ap (λ (v : NodeLog). v.start) h.read
-
-no_rows : (at : ℕ) (pairs : List Pair) → AllByRecursion (λ (e : LogEntry). HasNoRows e.kind) (entries_from at pairs)
-no_rows at [] = tt
-no_rows at (pair ∷ pairs) = (refl, (tt, no_rows (at + pair_length pair) pairs))
-
-pub thin_without_rows : (file : List ℕ) (log : NodeLog) → IsThinFile file log → AllByRecursion (λ (e : LogEntry). HasNoRows e.kind) log.entries
-thin_without_rows file log (inl x) = subst (λ (v : NodeLog). AllByRecursion (λ (e : LogEntry). HasNoRows e.kind) v.entries) (sym x.1) tt
-thin_without_rows file log (inr h) = subst (λ (v : NodeLog). AllByRecursion (λ (e : LogEntry). HasNoRows e.kind) v.entries) (sym h.read) (no_rows (4 + h.format.header.length) h.pairs)

@@ -12,8 +12,6 @@ use Rattle.cdc_event.specs.Event.{magic, header_bytes, event_bytes, FitsHeader}
 use Rattle.cdc_query.specs.declared.verb.Verb.{Verb}
 use Rattle.cdc_query.specs.declared.verb.Verb.TheVariants.{XaStart, XaEnd, XaCommit}
 use Rattle.cdc_query.specs.Text.{canonical_text}
-use Rattle.cdc_model.specs.declared.entry.EntryKind.{EntryKind}
-use Rattle.cdc_model.specs.declared.entry.EntryKind.TheVariants.{Prepare, OnePhase, Commit, Rollback, Plain, Beat}
 use Rattle.cdc_model.specs.Records.{LogEntry}
 use Rattle.cdc_top.specs.Thin.{IsLogEvent, Pair, pair_entries, pair_length}
 
@@ -166,12 +164,3 @@ pub record HasEntries (file : List ℕ) (entries : List LogEntry) : Type 0 where
 -- a file has no such entries
 abbrev pub HasNoPairs : List ℕ → Type 0
 HasNoPairs file = (entries : List LogEntry) → HasEntries file entries → ⊥
-
--- an entry's kind has no rows
-abbrev pub HasNoRows : EntryKind → Type 0
-HasNoRows (Prepare xid rows) = rows ≡ []
-HasNoRows (OnePhase xid rows timestamp seconds) = rows ≡ []
-HasNoRows (Commit xid timestamp seconds) = Unit {0}
-HasNoRows (Rollback xid) = Unit {0}
-HasNoRows (Plain rows seconds) = rows ≡ []
-HasNoRows (Beat timestamp) = Unit {0}
