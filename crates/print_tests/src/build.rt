@@ -78,12 +78,12 @@ pub fn add_shared(rows: &mut RowList, body: &Body, count: u32) -> Result<(), Mem
 }
 
 /// One branch more.
-pub fn add_branch(branches: &mut BranchList, key: Key, rows: RowList) -> Result<(), Memory>
-    requires key { IsKeptKey key }
+pub fn add_branch(branches: &mut BranchList, key: &Key, rows: RowList) -> Result<(), Memory>
+    requires key { IsKeptKey key.now }
     requires rows { AllByRecursion IsRow rows }
 {
     branches.push(Branch {
-        key,
+        key: *key,
         entry: 2,
         seconds: 5,
         rows,
@@ -100,12 +100,12 @@ pub fn shared(timestamp: u64, id: &[u8]) -> Option<Key>
 }
 
 /// A transaction.
-pub fn transaction(number: u64, key: Key, branches: BranchList) -> Txn
-    requires { IsKeptKey key }
+pub fn transaction(number: u64, key: &Key, branches: BranchList) -> Txn
+    requires { IsKeptKey key.now }
 {
     Txn {
         number,
-        key,
+        key: *key,
         seconds: 5,
         branches,
     }
