@@ -21,13 +21,21 @@ pub fn blob_of(alloc: Global, bytes: &[u8]) -> Result<Blob, Memory>
     buffer.freeze()
 }
 
+/// The body of a row event of type 30.
+pub fn value_body(alloc: Global, bytes: &[u8]) -> Result<Body, Memory>
+    requires { length bytes.now ≤ 2 ^ 26 }
+    ensures { IfOk result (λ body. IsRow (30, body)) }
+{
+    let bytes = blob_of(alloc, bytes)?;
+    Ok(Body::Rows { bytes })
+}
+
 /// A row event of type 30.
 pub fn value_row(alloc: Global, bytes: &[u8]) -> Result<(u8, Body), Memory>
     requires { length bytes.now ≤ 2 ^ 26 }
     ensures { IfOk result IsRow }
 {
-    let bytes = blob_of(alloc, bytes)?;
-    Ok((30, Body::Rows { bytes }))
+    Ok((30, value_body(alloc, bytes)?))
 }
 
 /// A marked text of type 29.

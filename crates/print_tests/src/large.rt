@@ -5,8 +5,8 @@ ghost use Rattle.std.specs.List.{AllByRecursion};
 ghost use Rattle.cdc_model.specs.Kept.{IsRow};
 
 use crate::build::{
-    add_branch, add_row, add_shared, blob_of, no_branches, no_rows, part, printed, shared,
-    transaction, value_row,
+    add_branch, add_row, add_shared, no_branches, no_rows, part, printed, shared, transaction,
+    value_body, value_row,
 };
 use cdc_base::Memory;
 use cdc_event::Body;
@@ -26,9 +26,7 @@ fn filled(alloc: Global, value: u8, count: usize) -> Result<Body, Memory>
     ensures { IfOk result (λ body. IsRow (30, body)) }
 {
     let bytes = vec![in alloc; value; count]?;
-    Ok(Body::Rows {
-        bytes: blob_of(alloc, bytes.as_slice())?,
-    })
+    value_body(alloc, bytes.as_slice())
 }
 
 // Adds 255 rows of 2^20 bytes that share one body.
