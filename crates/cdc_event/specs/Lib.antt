@@ -3,4 +3,5 @@ pub mod Event
 pub mod Table
 pub mod Length
 pub mod Reading
+pub mod File
 pub mod Laws

@@ -22,6 +22,15 @@ pub enum EventFault {
     Partial,
 }
 
+/// What is wrong with a log file.
+#[derive(Clone, Copy, Debug, PartialEq, Eq)]
+pub enum FileFault {
+    /// The file's first four bytes aren't the magic of a log.
+    BadMagic,
+    /// An event is faulty.
+    Event(EventFault),
+}
+
 /// Why an event couldn't be read.
 #[derive(Clone, Copy, Debug, PartialEq, Eq)]
 pub enum ReadError {

@@ -17,7 +17,7 @@ mod writing;
 
 pub use body::Body;
 pub use event::Event;
-pub use fault::{EventFault, ReadError};
+pub use fault::{EventFault, FileFault, ReadError};
 pub use header::{HEADER_LENGTH, Header, LENGTH_MAX, check_length, read_header};
 pub use laws::{
     events_and_bytes_correspond, faults_are_told_apart, no_event_begins_another,
