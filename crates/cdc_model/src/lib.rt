@@ -24,7 +24,7 @@ mod watermark;
 pub use branch::{Branch, BranchList};
 pub use committed::add_node_branches;
 pub use entry::{Entry, EntryKind, EntryList};
-pub use fault::SortFault;
+pub use fault::{GroupFault, NodeFault, SortFault};
 pub use laws::{
     files_are_whole, grown_log_continues, log_prefix_is_an_order, mark_is_greatest, mark_is_least,
     node_mark_is_least, numbers_count, one_more_is_one_step, open_as_newest_says, order_is_exact,
