@@ -24,8 +24,6 @@ misfit_waiting Foreign = Some Statement
 misfit_waiting Gtid = None
 misfit_waiting (XaStartText xid) = None
 misfit_waiting (XaCommitText xid) = None
-misfit_waiting NumberEvent = Some OutOfPlace
-misfit_waiting (PrepareEvent one_phase xid) = Some OutOfPlace
 misfit_waiting _ = Some BadTimestamp
 
 -- a statement may stand where the group has neither rows nor a statement, and rows where it has no statement
