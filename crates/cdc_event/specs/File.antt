@@ -1,5 +1,5 @@
 -- The events of a log file, one behind another, and what stands behind the last of them.
-use Rattle.std.specs.Prelude.{◌≡◌, ◌≢◌, ◌<◌, ◌≤◌, ◌⊎◌, ℕ, zero, suc, ◌+◌, ◌^◌, ◌==◌, ◌&&◌, not, Bool, true, false, IsTrue, List, [], ◌∷◌, ◌++◌, length, take, Option, Some, None}
+use Rattle.std.specs.Prelude.{◌≡◌, ◌≢◌, ◌<◌, ◌≤◌, ◌⊎◌, ℕ, zero, suc, ◌+◌, ◌^◌, ◌==◌, ◌&&◌, not, Bool, true, false, List, [], ◌∷◌, ◌++◌, length, take, Option, Some, None}
 use Rattle.cdc_event.specs.declared.header.Header.{Header}
 use Rattle.cdc_event.specs.declared.body.Body.{Body}
 use Rattle.cdc_event.specs.declared.body.Body.TheVariants.{Format, Query, Rotate, RowsQuery, TableMap, Rows, XaPrepare, Timestamp, Skipped}
@@ -62,15 +62,15 @@ HasWholeFault first checksum header body fault =
 
 -- what is wrong with the event that begins here: its length, as soon as its header is there; all else once it is whole
 pub data IsFaulty (first : Bool) (checksum : ℕ) (bytes : List ℕ) (fault : EventFault) : Type 0 where
-  pub by_length : (header : Header) (more : List ℕ) → BeginsWith bytes header more → HasLengthFault checksum header fault
+  by_length : (header : Header) (more : List ℕ) → BeginsWith bytes header more → HasLengthFault checksum header fault
       → IsFaulty first checksum bytes fault
-  pub by_body : (header : Header) (body rest : List ℕ) → BeginsWith bytes header (body ++ rest) → HasGoodLength checksum header
+  by_body : (header : Header) (body rest : List ℕ) → BeginsWith bytes header (body ++ rest) → HasGoodLength checksum header
       → header.length ≡ 19 + length body → HasWholeFault first checksum header body fault → IsFaulty first checksum bytes fault
 
 -- the event that begins here isn't whole, and nothing is wrong with what is there of it
 pub data IsUnfinished (checksum : ℕ) (bytes : List ℕ) : Type 0 where
-  pub in_header : length bytes < 19 → IsUnfinished checksum bytes
-  pub in_body : (header : Header) (more : List ℕ) → BeginsWith bytes header more → HasGoodLength checksum header
+  in_header : length bytes < 19 → IsUnfinished checksum bytes
+  in_body : (header : Header) (more : List ℕ) → BeginsWith bytes header more → HasGoodLength checksum header
       → length bytes < header.length → IsUnfinished checksum bytes
 
 -- behind the last event: a fault at this place, or less than an event
@@ -111,8 +111,8 @@ OneReading =
 -- the events of more bytes begin with those of fewer, and a fault stays
 pub record Lengthens (events more : List PlacedEvent) (fault later : Option (ℕ × FileFault)) : Type 0 where
   pub new : List PlacedEvent
-  pub events : more ≡ events ++ new
-  pub fault : fault ≢ None → (new ≡ []) × (later ≡ fault)
+  pub goes_on : more ≡ events ++ new
+  pub stays : fault ≢ None → (new ≡ []) × (later ≡ fault)
 
 -- law: a file that has grown keeps its events, and its fault where it had one
 abbrev pub GrownFileContinues : Type 0
