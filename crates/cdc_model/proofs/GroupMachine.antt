@@ -1,6 +1,7 @@
 -- The grammar of a node's log as a machine, for proofs: where one event leads from each stage, and what a run comes to.
 use Rattle.std.specs.Prelude.{ℕ, List, [], ◌∷◌, ◌++◌, Option, Some, None}
-use Rattle.std.specs.Option.{option_map, option_to_list}
+use Rattle.std.specs.Option.{option_map}
+use Rattle.std.specs.List.{cons_option}
 use Rattle.cdc_model.specs.declared.entry.EntryKind.{EntryKind}
 use Rattle.cdc_model.specs.declared.entry.EntryKind.TheVariants.{Prepare, OnePhase, Commit, Rollback, Plain, Beat}
 use Rattle.cdc_model.specs.declared.fault.GroupFault.{GroupFault}
@@ -74,12 +75,12 @@ pub data Ending : Type 0 where
   Misplaced : SignedEvent → GroupFault → Ending
 
 -- an event that the table has a fault for ends the run, and any other gives its entry, if it ends one, before those of later events
-abbrev pub judged : ℕ → Stage → SignedEvent → Option GroupFault → List LogEntry × Ending → List LogEntry × Ending
-judged file stage event None later = (option_to_list (given file stage event) ++ later.0, later.1)
-judged file stage event (Some fault) later = ([], Misplaced event fault)
+abbrev pub judged : SignedEvent → Option GroupFault → Option LogEntry → List LogEntry × Ending → List LogEntry × Ending
+judged event None entry later = (cons_option entry later.0, later.1)
+judged event (Some fault) entry later = ([], Misplaced event fault)
 
 -- the entries of events of file `file` from a stage on, and how the run ends
 abbrev pub outcome : ℕ → Stage → List SignedEvent → List LogEntry × Ending
 outcome file stage [] = ([], Reached stage)
 outcome file stage (event ∷ events) =
-    judged file stage event (misfit stage event.sign) (outcome file (advance stage event.sign) events)
+    judged event (misfit stage event.sign) (given file stage event) (outcome file (advance stage event.sign) events)

@@ -14,3 +14,5 @@ mod PrintLength
 mod ClosedFiles
 mod Files
 mod GroupMachine
+mod GroupRuns
+mod GroupItems
