@@ -1,7 +1,7 @@
 -- A run over an unfinished item comes as far as it has, and a run over whole items gives their entries.
-use Rattle.std.proofs.Common.{◌≡◌, ◌≢◌, ◌==◌, ◌⊎◌, inl, inr, ℕ, Bool, true, false, List, [], ◌∷◌, ◌++◌, append_assoc, append-nil, Option, Some, None, ap, sym, subst, refl, ◌∙◌, if◌then◌else◌, arith}
-use Rattle.std.specs.List.{AllByRecursion, cons_option, flat_map, filter_map}
-use Rattle.std.specs.Option.{option_map, option_to_list}
+use Rattle.std.proofs.Common.{◌≡◌, ◌≢◌, ◌==◌, inl, inr, ℕ, Bool, true, false, List, [], ◌∷◌, ◌++◌, append-nil, Option, Some, None, ap, sym, subst, refl, ◌∙◌, if◌then◌else◌, arith}
+use Rattle.std.specs.List.{AllByRecursion, flat_map, filter_map}
+use Rattle.std.specs.Option.{option_to_list}
 use Rattle.std.proofs.lemmas.Bool.Decides.{nat_tests}
 use Rattle.cdc_base.specs.declared.place.Place.{Place}
 use Rattle.cdc_base.specs.declared.xid.Xid.{Xid}
@@ -10,13 +10,12 @@ use Rattle.cdc_model.specs.declared.entry.EntryKind.TheVariants.{Prepare, OnePha
 use Rattle.cdc_model.specs.declared.fault.GroupFault.{GroupFault}
 use Rattle.cdc_model.specs.declared.fault.GroupFault.TheVariants.{XidDiffers}
 use Rattle.cdc_model.specs.Records.{Row, LogEntry}
-use Rattle.cdc_model.specs.Start.{same_xid}
-use Rattle.cdc_model.specs.Sign.{Sign, SignedEvent, Gtid, Quiet, Ddl, Marked, CommitTime, BeatTime, NoTime, RowEvent, NumberEvent, PrepareEvent, BeginText, CommitText, RollbackText, SavepointText, XaStartText, XaEndText, XaCommitText, XaRollbackText, OtherText, Foreign, is_quiet, is_gtid, is_silent, is_inner, is_unmarked, is_passed, row_of}
-use Rattle.cdc_model.specs.Group.{Says, rows_in, Content, TableRows, OneStatement, rows_of, IsGroupBody, IsBegunXa, IsEndedXa, IsBegunLocal, IsStamp, IsEntryOf, IsNoEntry, StandsAt, IsItem, Reads, Stage, Out, Wait, Xa, End, Local, IsTimed, Reaches}
-use Rattle.cdc_model.specs.Misfit.{misfit, unless_same, misfit_phase}
+use Rattle.cdc_model.specs.Sign.{Sign, SignedEvent, Gtid, Quiet, Ddl, Marked, CommitTime, BeatTime, RowEvent, NumberEvent, PrepareEvent, BeginText, CommitText, RollbackText, SavepointText, XaStartText, XaEndText, XaCommitText, XaRollbackText, OtherText, is_quiet, is_gtid, is_silent, is_inner, is_unmarked, is_passed, row_of}
+use Rattle.cdc_model.specs.Group.{Says, Content, TableRows, OneStatement, rows_of, IsGroupBody, IsBegunXa, IsEndedXa, IsBegunLocal, IsStamp, IsEntryOf, StandsAt, IsItem, Reads, Stage, Out, Wait, Xa, End, Local, IsTimed, Reaches}
+use Rattle.cdc_model.specs.Misfit.{unless_same, misfit_phase}
 use Rattle.cdc_model.proofs.OpenBranches.{same_xid_laws}
-use Rattle.cdc_model.proofs.GroupMachine.{advance, made, entry_at, given, prepared, Ending, Reached, Misplaced, judged, outcome}
-use Rattle.cdc_model.proofs.GroupRuns.{Leads, Passes, passes_on, runs_then, ends_entry, all_pass, rows_pass, outcome_append, outcome_led, joined, cons_option_list}
+use Rattle.cdc_model.proofs.GroupMachine.{entry_at, prepared, Ending, Reached, outcome}
+use Rattle.cdc_model.proofs.GroupRuns.{Leads, Passes, passes_on, runs_then, ends_entry, all_pass, rows_pass, outcome_append, joined, cons_option_list}
 
 pub no_test : false ≡ true → ⊥
 no_test e = cc

@@ -16,3 +16,4 @@ mod Files
 mod GroupMachine
 mod GroupRuns
 mod GroupItems
+mod GroupSteps
