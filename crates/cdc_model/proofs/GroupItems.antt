@@ -116,10 +116,10 @@ begun_passes file time xid content events (start, body, is, says, holds) =
     (body_passes file time xid content body holds))
 
 -- an event that names its own branch names no other
-named : (xid : Xid) (fault : Option GroupFault) → unless_same xid xid fault ≡ fault
+pub named : (xid : Xid) (fault : Option GroupFault) → unless_same xid xid fault ≡ fault
 named xid fault = ap (λ (b : Bool). if b then fault else Some XidDiffers) (same_xid_laws.refl xid)
 
-end_leads : (time : Option ℕ) (xid : Xid) (content : Content) (seconds : ℕ) → Leads (Xa time xid content) seconds (XaEndText xid) (End time xid content) None
+pub end_leads : (time : Option ℕ) (xid : Xid) (content : Content) (seconds : ℕ) → Leads (Xa time xid content) seconds (XaEndText xid) (End time xid content) None
 end_leads time xid content seconds = record { fits = named xid None; to = refl; gives = refl }
 
 ended_passes : (file : ℕ) (time : Option ℕ) (xid : Xid) (content : Content) (events : List SignedEvent) → IsEndedXa xid content events

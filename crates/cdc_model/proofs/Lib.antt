@@ -17,3 +17,4 @@ mod GroupMachine
 mod GroupRuns
 mod GroupItems
 mod GroupSteps
+mod GroupReading
