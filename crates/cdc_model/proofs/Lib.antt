@@ -18,3 +18,4 @@ mod GroupRuns
 mod GroupItems
 mod GroupSteps
 mod GroupReading
+mod LogReading
