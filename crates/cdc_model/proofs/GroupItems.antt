@@ -14,11 +14,9 @@ use Rattle.cdc_model.specs.Sign.{Sign, SignedEvent, Gtid, Quiet, Ddl, Marked, Co
 use Rattle.cdc_model.specs.Group.{Says, Content, TableRows, OneStatement, rows_of, IsGroupBody, IsBegunXa, IsEndedXa, IsBegunLocal, IsStamp, IsEntryOf, StandsAt, IsItem, Reads, Stage, Out, Wait, Xa, End, Local, IsTimed, Reaches}
 use Rattle.cdc_model.specs.Misfit.{unless_same, misfit_phase}
 use Rattle.cdc_model.proofs.OpenBranches.{same_xid_laws}
+use Rattle.cdc_model.proofs.SameXid.{no_test}
 use Rattle.cdc_model.proofs.GroupMachine.{entry_at, prepared, Ending, Reached, outcome}
 use Rattle.cdc_model.proofs.GroupRuns.{Leads, Passes, passes_on, runs_then, ends_entry, all_pass, rows_pass, outcome_append, joined, cons_option_list}
-
-pub no_test : false ≡ true → ⊥
-no_test e = cc
 
 -- ---- signs that lead nowhere
 

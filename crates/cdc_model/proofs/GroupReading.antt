@@ -121,7 +121,7 @@ reads_on file (event ∷ events) front entries stage last reads is =
     (subst (λ (list : List LogEntry). ReadsTo file ((front ++ event ∷ []) ++ events) list last)
     (append_assoc entries (option_to_list entry) (outcome file next events).0 ∙ ap (λ (list : List LogEntry). entries ++ list) (sym first.2)) more)
 
-reads_nothing : (file : ℕ) → ReadsTo file [] [] Out
+pub reads_nothing : (file : ℕ) → ReadsTo file [] [] Out
 reads_nothing file = record {
   whole = [];
   part = [];
@@ -213,8 +213,10 @@ pub run_ceases : (file : ℕ) (front behind : List SignedEvent) (entries : List 
 run_ceases file front behind entries stage misplaced fault reads told =
     outcome_append file Out front (misplaced ∷ behind)
     ∙ ap (λ (o : List LogEntry × Ending). joined file o (misplaced ∷ behind)) (reads_to_run file front entries stage reads)
-    ∙ ap (λ (f : Option GroupFault). (entries ++ (judged misplaced f (given file stage misplaced) (outcome file (advance stage misplaced.sign) behind)).0,
-    (judged misplaced f (given file stage misplaced) (outcome file (advance stage misplaced.sign) behind)).1)) told
+    ∙ ap (λ (f : Option GroupFault). (
+      entries ++ (judged misplaced f (given file stage misplaced) (outcome file (advance stage misplaced.sign) behind)).0,
+      (judged misplaced f (given file stage misplaced) (outcome file (advance stage misplaced.sign) behind)).1,
+    )) told
     ∙ ap (λ (list : List LogEntry). (list, Misplaced misplaced fault)) (append-nil entries)
 
 -- no run both ends at a stage and ceases
@@ -223,7 +225,7 @@ never_both : (o : List LogEntry × Ending) (entries others : List LogEntry) (sta
 never_both o entries others stage event fault first second =
     let same : Reached stage ≡ Misplaced event fault = ap (λ (p : List LogEntry × Ending). p.1) (sym first ∙ second) in cc
 
-told_misfits : (file : ℕ) (events : List SignedEvent) (entries : List LogEntry) (stage : Stage) (next : SignedEvent) (fault : GroupFault)
+pub told_misfits : (file : ℕ) (events : List SignedEvent) (entries : List LogEntry) (stage : Stage) (next : SignedEvent) (fault : GroupFault)
     → ReadsTo file events entries stage → misfit stage next.sign ≡ Some fault → Fits file (events ++ next ∷ []) → ⊥
 told_misfits file events entries stage next fault reads told fits =
     let read = fitting_read file (events ++ next ∷ []) fits in
@@ -232,7 +234,8 @@ told_misfits file events entries stage next fault reads told fits =
     (run_ceases file events [] entries stage next fault reads told)
 
 pub misfits_are_told : MisfitsAreTold
-misfits_are_told file events entries stage next reads =
-    (λ fits. read_fits file (events ++ next ∷ []) (entries ++ option_to_list (given file stage next)) (advance stage next.sign)
-    (reads_next file events entries stage next reads fits),
-    λ fault told fits. told_misfits file events entries stage next fault reads told fits)
+misfits_are_told file events entries stage next reads = (
+  λ fits. read_fits file (events ++ next ∷ []) (entries ++ option_to_list (given file stage next)) (advance stage next.sign)
+      (reads_next file events entries stage next reads fits),
+  λ fault told fits. told_misfits file events entries stage next fault reads told fits,
+)

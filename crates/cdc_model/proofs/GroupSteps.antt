@@ -1,8 +1,7 @@
 -- One event more: it goes on with the unfinished item, or ends it.
-use Rattle.std.proofs.Common.{◌≡◌, ◌≢◌, ◌==◌, ◌&&◌, ◌⊎◌, inl, inr, ℕ, Bool, true, false, List, [], ◌∷◌, ◌++◌, append_assoc, append-nil, Option, Some, None, ap, sym, subst, refl, ◌∙◌, if◌then◌else◌, nat_eq, arith}
+use Rattle.std.proofs.Common.{◌≡◌, ◌≢◌, ◌==◌, ◌⊎◌, inl, inr, ℕ, Bool, true, false, List, [], ◌∷◌, ◌++◌, append_assoc, append-nil, Option, Some, None, ap, sym, subst, refl, ◌∙◌, if◌then◌else◌, arith}
 use Rattle.std.proofs.lemmas.Bool.Decides.{nat_tests}
 use Rattle.std.proofs.lemmas.List.Elements.{filter_map-append}
-use Rattle.std.specs.Cmp.Lexicographic.{pointwise}
 use Rattle.std.specs.List.{AllByRecursion, cons_option}
 use Rattle.std.specs.Option.{option_map, option_to_list}
 use Rattle.cdc_base.specs.declared.xid.Xid.{Xid}
@@ -13,47 +12,15 @@ use Rattle.cdc_model.specs.Start.{same_xid}
 use Rattle.cdc_model.specs.Sign.{Sign, SignedEvent, Gtid, Quiet, Ddl, Marked, CommitTime, BeatTime, RowEvent, NumberEvent, PrepareEvent, BeginText, CommitText, RollbackText, SavepointText, XaStartText, XaEndText, XaCommitText, XaRollbackText, OtherText, is_quiet, is_gtid, is_silent, is_inner, is_unmarked, is_passed, row_of}
 use Rattle.cdc_model.specs.Group.{Says, rows_in, Content, TableRows, OneStatement, IsGroupBody, IsEndedXa, IsBegunLocal, IsStamp, IsNoEntry, IsItem, Stage, Out, Wait, Xa, End, Local, Reaches}
 use Rattle.cdc_model.specs.Misfit.{misfit, misfit_phase, unless_same}
+use Rattle.cdc_model.proofs.SameXid.{no_test, same_xid_is, xid_of}
 use Rattle.cdc_model.proofs.GroupMachine.{advance, made, entry_at, given, with_row}
 
--- ---- xids that tie are one
-
-no_test : false ≡ true → ⊥
-no_test e = cc
-
-both : (a b : Bool) → (a && b) ≡ true → (a ≡ true) × (b ≡ true)
-both true true e = (refl, refl)
-both true false e = absurd (no_test e)
-both false b e = absurd (no_test e)
-
-same_bytes : (xs ys : List ℕ) → pointwise nat_eq xs ys ≡ true → xs ≡ ys
-same_bytes [] [] e = refl
-same_bytes [] (y ∷ ys) e = absurd (no_test e)
-same_bytes (x ∷ xs) [] e = absurd (no_test e)
-same_bytes (x ∷ xs) (y ∷ ys) e =
-    let parts = both (nat_eq x y) (pointwise nat_eq xs ys) e in
-    let first : nat_eq x y ≡ true = parts.0 in
-    let is : x ≡ y = grind (arith, nat_tests, first) in
-    ap (λ (list : List ℕ). x ∷ list) (same_bytes xs ys parts.1) ∙ ap (λ (z : ℕ). z ∷ ys) is
-
-abbrev xid_of : List ℕ → List ℕ → ℕ → Xid
-xid_of gtrid bqual format = record { gtrid = gtrid; bqual = bqual; format = format }
-
-pub same_xid_is : (x y : Xid) → same_xid x y ≡ true → x ≡ y
-same_xid_is x y e =
-    let parts = both (pointwise nat_eq x.gtrid y.gtrid) (pointwise nat_eq x.bqual y.bqual && x.format == y.format) e in
-    let later = both (pointwise nat_eq x.bqual y.bqual) (x.format == y.format) parts.1 in
-    let last : (x.format == y.format) ≡ true = later.1 in
-    let format : x.format ≡ y.format = grind (arith, nat_tests, last) in
-    ap (λ (g : List ℕ). xid_of g x.bqual x.format) (same_bytes x.gtrid y.gtrid parts.0)
-    ∙ ap (λ (b : List ℕ). xid_of y.gtrid b x.format) (same_bytes x.bqual y.bqual later.0)
-    ∙ ap (xid_of y.gtrid y.bqual) format
+-- ---- one element more
 
 -- an event that fits where a branch is named names that branch
 named_here : (same : Bool) (fault : Option GroupFault) → (if same then fault else Some XidDiffers) ≡ None → (same ≡ true) × (fault ≡ None)
 named_here true fault e = (refl, e)
 named_here false fault e = absurd (let h = e in cc)
-
--- ---- one element more
 
 all_more : (test : Sign → Bool) (events : List SignedEvent) (event : SignedEvent)
     → AllByRecursion (λ (e : SignedEvent). test e.sign ≡ true) events → test event.sign ≡ true
@@ -148,17 +115,27 @@ all_silent (event ∷ events) (first, all) none =
 -- a group that goes on, before its end
 xa_goes_on : (time : Option ℕ) (xid : Xid) (content : Content) (after : Content) (part : List SignedEvent) (event : SignedEvent) → Reaches part (Xa time xid content)
     → ((body : List SignedEvent) → IsGroupBody content body → IsGroupBody after (body ++ event ∷ [])) → Reaches (part ++ event ∷ []) (Xa time xid after)
-xa_goes_on time xid content after part event (stamp, group, is, timed, (start, body, begins, first, holds)) more =
-    (stamp, group ++ event ∷ [], part_more part stamp group event is, timed,
-    (start, body ++ event ∷ [], ap (λ (list : List SignedEvent). list ++ event ∷ []) begins, first, more body holds))
+xa_goes_on time xid content after part event (stamp, group, is, timed, (start, body, begins, first, holds)) more = (
+  stamp,
+  group ++ event ∷ [],
+  part_more part stamp group event is,
+  timed,
+  (start, body ++ event ∷ [], ap (λ (list : List SignedEvent). list ++ event ∷ []) begins, first, more body holds),
+)
 
 silent_more : (content : Content) (body : List SignedEvent) (event : SignedEvent) (sign : Sign) → Says event sign → is_silent sign ≡ true → is_unmarked sign ≡ true
     → row_of sign ≡ None → IsGroupBody content body → IsGroupBody content (body ++ event ∷ [])
 silent_more (TableRows rows) body event sign says silent unmarked none (all, are) =
     (all_more is_unmarked body event all (test_of is_unmarked event sign says unmarked), no_row_more rows body event sign are says none)
-silent_more (OneStatement row) body event sign says silent unmarked none (before, after, statement, is, first, all, later) =
-    (before, after ++ event ∷ [], statement, part_more body before (statement ∷ after) event is, first, all,
-    all_more is_silent after event later (test_of is_silent event sign says silent))
+silent_more (OneStatement row) body event sign says silent unmarked none (before, after, statement, is, first, all, later) = (
+  before,
+  after ++ event ∷ [],
+  statement,
+  part_more body before (statement ∷ after) event is,
+  first,
+  all,
+  all_more is_silent after event later (test_of is_silent event sign says silent),
+)
 
 row_more : (content : Content) (row : Row) (body : List SignedEvent) (event : SignedEvent) → Says event (RowEvent row)
     → misfit (Xa None (xid_of [] [] 0) content) (RowEvent row) ≡ None → IsGroupBody content body → IsGroupBody (with_row content row) (body ++ event ∷ [])
@@ -198,9 +175,13 @@ xa_goes file time xid content part event _ reaches says h = absurd (let e = h in
 
 ended_goes_on : (time : Option ℕ) (xid : Xid) (content : Content) (part : List SignedEvent) (event : SignedEvent) (sign : Sign) → Reaches part (End time xid content)
     → Says event sign → is_quiet sign ≡ true → Reaches (part ++ event ∷ []) (End time xid content)
-ended_goes_on time xid content part event sign (stamp, group, is, timed, (begun, quiets, end, ends, begins, last, all)) says h =
-    (stamp, group ++ event ∷ [], part_more part stamp group event is, timed,
-    (begun, quiets ++ event ∷ [], end, part_more group begun (end ∷ quiets) event ends, begins, last, all_more is_quiet quiets event all (test_of is_quiet event sign says h)))
+ended_goes_on time xid content part event sign (stamp, group, is, timed, (begun, quiets, end, ends, begins, last, all)) says h = (
+  stamp,
+  group ++ event ∷ [],
+  part_more part stamp group event is,
+  timed,
+  (begun, quiets ++ event ∷ [], end, part_more group begun (end ∷ quiets) event ends, begins, last, all_more is_quiet quiets event all (test_of is_quiet event sign says h)),
+)
 
 zero_phase : (one_phase : ℕ) → misfit_phase None one_phase ≡ None → one_phase ≡ 0
 zero_phase one_phase h = by_test (one_phase == 0) refl h
@@ -224,9 +205,16 @@ prepare_goes file None xid other content part event one_phase (stamp, group, is,
 prepare_goes file (Some timestamp) xid other content part event one_phase (stamp, group, is, timed, ended) says h =
     let named = named_here (same_xid xid other) (misfit_phase (Some timestamp) one_phase) h in
     let same : xid ≡ other = same_xid_is xid other named.0 in
-    inr (refl, (part, event, refl,
-    (stamp, group, content, one_phase, is, timed, ended, says ∙ ap (PrepareEvent one_phase) (sym same), other_phase timestamp one_phase named.1, refl, refl),
-    record { at = refl; end = refl; checksum = refl }))
+    inr (
+      refl,
+      (
+        part,
+        event,
+        refl,
+        (stamp, group, content, one_phase, is, timed, ended, says ∙ ap (PrepareEvent one_phase) (sym same), other_phase timestamp one_phase named.1, refl, refl),
+        record { at = refl; end = refl; checksum = refl },
+      ),
+    )
 
 ended_goes : (file : ℕ) (time : Option ℕ) (xid : Xid) (content : Content) (part : List SignedEvent) (event : SignedEvent) (sign : Sign) → Reaches part (End time xid content)
     → Says event sign → misfit (End time xid content) sign ≡ None → GoesBy file part event (End time xid content) sign
@@ -241,9 +229,14 @@ ended_goes file time xid content part event _ reaches says h = absurd (let e = h
 
 local_goes_on : (rows more : List Row) (part : List SignedEvent) (event : SignedEvent) (sign : Sign) → IsBegunLocal rows part → Says event sign → is_inner sign ≡ true
     → more ≡ rows ++ option_to_list (row_of sign) → IsBegunLocal more (part ++ event ∷ [])
-local_goes_on rows more part event sign (begin, body, is, first, all, are) says h grown =
-    (begin, body ++ event ∷ [], ap (λ (list : List SignedEvent). list ++ event ∷ []) is, first,
-    all_more is_inner body event all (test_of is_inner event sign says h), grown ∙ rows_more rows body event sign are says)
+local_goes_on rows more part event sign (begin, body, is, first, all, are) says h grown = (
+  begin,
+  body ++ event ∷ [],
+  ap (λ (list : List SignedEvent). list ++ event ∷ []) is,
+  first,
+  all_more is_inner body event all (test_of is_inner event sign says h),
+  grown ∙ rows_more rows body event sign are says,
+)
 
 local_goes : (file : ℕ) (rows : List Row) (part : List SignedEvent) (event : SignedEvent) (sign : Sign) → IsBegunLocal rows part
     → Says event sign → misfit (Local rows) sign ≡ None → GoesBy file part event (Local rows) sign

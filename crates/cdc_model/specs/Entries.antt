@@ -87,6 +87,11 @@ MisfitsAreTold = (file : ℕ) (events : List SignedEvent) (entries : List LogEnt
     → (misfit stage next.sign ≡ None → Fits file (events ++ next ∷ []))
     × ((fault : GroupFault) → misfit stage next.sign ≡ Some fault → Fits file (events ++ next ∷ []) → ⊥)
 
+-- law: events have entries, whatever they are
+abbrev pub EventsHaveEntries : Type 0
+EventsHaveEntries = (file : ℕ) (events : List SignedEvent) (ended : Option (ℕ × FileFault))
+    → (entries : List LogEntry) × (fault : Option (Place × NodeFault)) × AreEntriesOfEvents file events ended entries fault
+
 -- law: a log has one list of entries, and one fault or none
 abbrev pub OneEntryList : Type 0
 OneEntryList = (files : List (List ℕ)) (entries others : List LogEntry) (fault other : Option (Place × NodeFault))

@@ -1,9 +1,9 @@
 //! The laws of the grammar of a node's log: its events are read in one way, where they cease to fit is told by a table,
 //! and a log that goes on keeps its entries. Each function ensures its law, so that the check proves it.
 
-use cdc_event::{file_is_read_in_one_way, grown_file_continues};
+ghost use Rattle.cdc_model.specs.Entries.{OneReading, OneStage, FittingIsRead, FrontsFit, MisfitsAreTold, EventsHaveEntries, OneEntryList, ContinuedLogKeepsEntries};
 
-ghost use Rattle.cdc_model.specs.Entries.{OneReading, OneStage, FittingIsRead, FrontsFit, MisfitsAreTold, OneEntryList, ContinuedLogKeepsEntries};
+use cdc_event::{file_is_read_in_one_way, grown_file_continues};
 
 /// A law: events that are whole items have one list of entries.
 pub fn entries_are_read_in_one_way()
@@ -28,6 +28,11 @@ pub fn fronts_fit()
 /// A law: one event more fits exactly where the table names no fault for it.
 pub fn misfits_are_told()
     ensures { MisfitsAreTold }
+{}
+
+/// A law: events have entries, whatever they are.
+pub fn events_have_entries()
+    ensures { EventsHaveEntries }
 {}
 
 /// A law: a log has one list of entries, and one fault or none.
