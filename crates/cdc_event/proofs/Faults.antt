@@ -9,10 +9,10 @@ use Rattle.cdc_event.specs.declared.fault.ReadError.{ReadError}
 use Rattle.cdc_event.specs.declared.fault.ReadError.TheVariants.{Fault, Memory}
 use Rattle.cdc_event.specs.Length.{tail_length, kept_header, kept_bytes}
 use Rattle.cdc_event.specs.Event.{header_bytes, Encodes}
-use Rattle.cdc_event.specs.Reading.{IsNoBody, HasFault, body_at, fault_of, event_with, event_of, Gives}
+use Rattle.cdc_event.specs.Reading.{HasKnownAlgorithm, IsNoBody, HasFault, body_at, fault_of, event_with, event_of, Gives}
 use Rattle.cdc_event.proofs.Numbers.{AreBytes}
 use Rattle.cdc_event.proofs.Bodies.{test_cases, is_kind}
-use Rattle.cdc_event.proofs.Whole.{Premises, encoded, with_err, no_body, unread_kind, shortened_kind, kept_are_bytes}
+use Rattle.cdc_event.proofs.Whole.{Premises, encoded, known_algorithm, with_err, no_body, unread_kind, shortened_kind, kept_are_bytes}
 
 is_other : (kind known : ℕ) → (kind == known) ≡ false → kind ≡ known → ⊥
 is_other kind known t k = grind (arith, nat_tests)
@@ -72,6 +72,10 @@ fault_from checksum header bytes fault h f =
 pub gives_event : (result : Result Event ReadError) (checksum : ℕ) (header : Header) (bytes : List ℕ) → Premises checksum header bytes → Gives result (event_of checksum header bytes) → IfOk result (λ event. Encodes event (header_bytes (kept_header checksum header) ++ kept_bytes checksum header.kind bytes))
 gives_event (Ok event) checksum header bytes p g = encoded checksum header bytes event p g
 gives_event (Err error) checksum header bytes p g = tt
+
+pub gives_known : (result : Result Event ReadError) (checksum : ℕ) (header : Header) (bytes : List ℕ) → Premises checksum header bytes → Gives result (event_of checksum header bytes) → IfOk result (λ event. HasKnownAlgorithm event.body)
+gives_known (Ok event) checksum header bytes p g = known_algorithm checksum header bytes event p g
+gives_known (Err error) checksum header bytes p g = tt
 
 pub gives_fault : (result : Result Event ReadError) (read : Result Event EventFault) (fault : EventFault) → Gives result read → result ≡ Err (Fault fault) → read ≡ Err fault
 gives_fault result read fault g e = let P : Result Event ReadError → Type 0 = λ r. Gives r read in subst P e g

@@ -13,3 +13,4 @@ pub mod Bodies
 pub mod Whole
 pub mod Faults
 pub mod Correspondence
+pub mod FileReading

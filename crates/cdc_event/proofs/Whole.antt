@@ -123,22 +123,40 @@ encoded checksum header bytes event p e =
       spelled = ap (λ v. header_bytes v ++ kept_bytes checksum header.kind bytes) (sym w.header_is) ∙ ap (λ v. header_bytes event.header ++ v) b.spelled;
     }
 
-pub read_so : (checksum : ℕ) (header : Header) (bytes : List ℕ) (event : Event) → Premises checksum header bytes → HasKnownAlgorithm event.body → Encodes event (header_bytes (kept_header checksum header) ++ kept_bytes checksum header.kind bytes) → event_of checksum header bytes ≡ Ok event
-read_so checksum header bytes event p known e =
+pub known_algorithm : (checksum : ℕ) (header : Header) (bytes : List ℕ) (event : Event) → Premises checksum header bytes → event_of checksum header bytes ≡ Ok event → HasKnownAlgorithm event.body
+known_algorithm checksum header bytes event p e =
+    let w = with_ok (kept_header checksum header) (body_at header.kind (kept_bytes checksum header.kind bytes)) event e in
+    let b = body_spelled header.kind (kept_bytes checksum header.kind bytes) event.body (kept_are_bytes (tail_length checksum header.kind) bytes p.bytes_are) w.body_is in
+    b.algorithm
+
+-- the body of an event that is spelled without its checksum
+pub record OwnBody (checksum : ℕ) (header : Header) (bytes : List ℕ) (event : Event) : Type 0 where
+  pub head : kept_header checksum header ≡ event.header
+  pub body : IsBodyOf header.kind (kept_bytes checksum header.kind bytes) event.body
+
+pub own_body : (checksum : ℕ) (header : Header) (bytes : List ℕ) (event : Event) → FitsHeader header → HasGoodLength checksum header → HasKnownAlgorithm event.body → Encodes event (header_bytes (kept_header checksum header) ++ kept_bytes checksum header.kind bytes) → OwnBody checksum header bytes event
+own_body checksum header bytes event fits good known e =
     let less = tail_length checksum header.kind in
     let size : (kept_header checksum header).length ≡ header.length - less = shortened_length less header in
-    let most : header.length ≤ 2 ^ 27 = p.good.most in
+    let most : header.length ≤ 2 ^ 27 = good.most in
     let most_too : event.header.length ≤ 2 ^ 27 + 256 = e.fits.most in
-    let parts = same_parts (kept_header checksum header) event.header (kept_bytes checksum header.kind bytes) (body_bytes event.body) (shortened_fits less header p.fits) (omega arith) e.fits.header (omega arith) e.spelled in
+    let parts = same_parts (kept_header checksum header) event.header (kept_bytes checksum header.kind bytes) (body_bytes event.body) (shortened_fits less header fits) (omega arith) e.fits.header (omega arith) e.spelled in
     let kind : event.header.kind ≡ header.kind = ap (λ (v : Header). v.kind) (sym parts.header) ∙ shortened_kind less header in
-    let own : IsBodyOf header.kind (kept_bytes checksum header.kind bytes) event.body = record {
-      fits = e.fits.body;
-      typed = subst (λ k. IsTrue (has_kind event.body k)) kind e.fits.kind;
-      algorithm = known;
-      spelled = parts.behind;
-    } in
-    let read : body_at header.kind (kept_bytes checksum header.kind bytes) ≡ Some event.body = body_again header.kind (kept_bytes checksum header.kind bytes) event.body own in
-    ap (λ r. event_with (kept_header checksum header) r) read ∙ ap (λ h. Ok record { header = h; body = event.body }) parts.header
+    record {
+      head = parts.header;
+      body = record {
+        fits = e.fits.body;
+        typed = subst (λ k. IsTrue (has_kind event.body k)) kind e.fits.kind;
+        algorithm = known;
+        spelled = parts.behind;
+      };
+    }
+
+pub read_so : (checksum : ℕ) (header : Header) (bytes : List ℕ) (event : Event) → Premises checksum header bytes → HasKnownAlgorithm event.body → Encodes event (header_bytes (kept_header checksum header) ++ kept_bytes checksum header.kind bytes) → event_of checksum header bytes ≡ Ok event
+read_so checksum header bytes event p known e =
+    let own = own_body checksum header bytes event p.fits p.good known e in
+    let read : body_at header.kind (kept_bytes checksum header.kind bytes) ≡ Some event.body = body_again header.kind (kept_bytes checksum header.kind bytes) event.body own.body in
+    ap (λ r. event_with (kept_header checksum header) r) read ∙ ap (λ h. Ok record { header = h; body = event.body }) own.head
 
 pub no_body : (kind : ℕ) (bytes : List ℕ) → body_at kind bytes ≡ None → IsNoBody kind bytes
 no_body kind bytes e = λ body own. let read : body_at kind bytes ≡ Some body = body_again kind bytes body own in absurd (cc)

@@ -109,9 +109,9 @@ OneReading =
     → (events ≡ others) × (fault ≡ other)
 
 -- the events of more bytes begin with those of fewer, and a fault stays
-pub record Lengthens (events longer : List PlacedEvent) (fault later : Option (ℕ × FileFault)) : Type 0 where
+pub record Lengthens (events more : List PlacedEvent) (fault later : Option (ℕ × FileFault)) : Type 0 where
   pub new : List PlacedEvent
-  pub kept : longer ≡ events ++ new
+  pub goes_on : more ≡ events ++ new
   pub stays : fault ≢ None → (new ≡ []) × (later ≡ fault)
 
 -- law: a file that has grown keeps its events, and its fault where it had one

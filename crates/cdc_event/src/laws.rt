@@ -1,5 +1,6 @@
-//! Laws of the event encoding. Each function does nothing; its clause is the law.
+//! Laws of the event encoding and of a file's events. Each function does nothing; its clause is the law.
 
+ghost use Rattle.cdc_event.specs.File.{OneReading, GrownFileContinues, RestIsRead};
 ghost use Rattle.cdc_event.specs.Laws.{WrittenIsRead, OneEvent, OneByteList, NoFront, OneFault, FormatByFields};
 
 /// What was written is read again, where nothing ends with a checksum, but for a format event whose
@@ -23,4 +24,19 @@ pub fn no_event_begins_another()
 pub fn faults_are_told_apart()
     ensures one_fault { OneFault }
     ensures format { FormatByFields }
+{}
+
+/// The bytes of a file, or of a file from an event's end on, have one list of events and one fault at most.
+pub fn file_is_read_in_one_way()
+    ensures { OneReading }
+{}
+
+/// A file that has grown keeps the events that it had, and its fault where it had one.
+pub fn grown_file_continues()
+    ensures { GrownFileContinues }
+{}
+
+/// From an event's end on, under the setting there, the events behind it are read, and the same fault.
+pub fn rest_is_read()
+    ensures { RestIsRead }
 {}

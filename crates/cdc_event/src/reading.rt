@@ -299,6 +299,8 @@ pub fn read_body(header: &Header, body: &Blob, checksum: u8) -> Result<Event, Re
     requires whole { header.now.length ≡ 19 + length body.now }
     // What is read is spelled so.
     ensures event { IfOk result (λ event. Encodes event (header_bytes (kept_header checksum header.now) ++ kept_bytes checksum header.now.kind body.now)) }
+    // A format event that is read names an algorithm that is known.
+    ensures known { IfOk result (λ event. HasKnownAlgorithm event.body) }
     // What is spelled so is read, unless memory runs out.
     ensures only { (event : Event) → HasKnownAlgorithm event.body → Encodes event (header_bytes (kept_header checksum header.now) ++ kept_bytes checksum header.now.kind body.now) → Gives result (Ok event) }
     // A fault is answered exactly where it stands.

@@ -13,3 +13,11 @@ mod OrderCut
 mod PrintLength
 mod ClosedFiles
 mod Files
+mod SameXid
+mod GroupMachine
+mod GroupRuns
+mod GroupItems
+mod GroupSteps
+mod GroupReading
+mod GroupOutcome
+mod LogReading

@@ -1,6 +1,10 @@
 pub mod Records
 pub mod Kept
 pub mod Log
+pub mod Sign
+pub mod Group
+pub mod Misfit
+pub mod Entries
 pub mod Start
 pub mod Watermark
 pub mod Soundness
