@@ -1,6 +1,7 @@
 mod KeptKeys
 mod Removal
 mod Worked
+mod WorkedEntries
 mod Members
 mod OpenBranches
 mod Marks
