@@ -2,6 +2,7 @@ mod KeptKeys
 mod Removal
 mod Worked
 mod WorkedEntries
+mod WorkedLogs
 mod Members
 mod OpenBranches
 mod Marks
