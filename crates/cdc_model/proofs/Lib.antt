@@ -1,6 +1,8 @@
 mod KeptKeys
 mod Removal
 mod Worked
+mod WorkedEntries
+mod WorkedLogs
 mod Members
 mod OpenBranches
 mod Marks
