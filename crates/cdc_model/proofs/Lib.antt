@@ -13,3 +13,4 @@ mod OrderCut
 mod PrintLength
 mod ClosedFiles
 mod Files
+mod Units
