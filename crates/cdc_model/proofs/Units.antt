@@ -1,6 +1,6 @@
 -- Units are steps of the output: the bytes that a step appends, and where the output then stands.
-use Rattle.std.proofs.Common.{◌≡◌, ℕ, ◌+◌, ◌-◌, ◌≤◌, leb, nat_eq, Bool, true, false, ◌||◌, ◌==◌, if◌then◌else◌, List, [], ◌∷◌, ◌++◌, length, length-append, append_assoc, append-nil, ap, sym, subst, refl, ◌∙◌, arith}
-use Rattle.std.proofs.lemmas.Bool.{ne_eqb}
+use Rattle.std.proofs.Common.{◌≡◌, ℕ, ◌+◌, ◌-◌, ◌<◌, ◌≤◌, leb, nat_eq, Bool, true, false, IsTrue, not, ◌||◌, ◌==◌, if◌then◌else◌, List, [], ◌∷◌, ◌++◌, length, length-append, append_assoc, append-nil, ap, sym, subst, refl, ◌∙◌, arith}
+use Rattle.std.proofs.lemmas.Bool.{leb-false, ne_eqb}
 use Rattle.cdc_base.specs.declared.rename.Rename.{Rename}
 use Rattle.cdc_model.specs.declared.layout.Layout.{Layout}
 use Rattle.cdc_model.specs.Records.{Transaction, OutputUnit}
@@ -190,11 +190,30 @@ module _ (rules : List Rename) (rotation : ℕ) (txn : Transaction) where
   step_from : (output : Output) → IsStep rules rotation txn (unit_of rules rotation txn (layout_in output)) output
   step_from output = step_of output.closed output.current
 
+-- a file that is left open is below the rotation size
+left_open : (full : Bool) (rotation at number size : ℕ) (head printed : List ℕ) → full ≡ leb rotation at → at ≡ size + length head + length printed
+    → IsTrue (not full) → size + length (head ++ (printed ++ (if full then rotate_event at number else []))) < rotation
+left_open true rotation at number size head printed is place left = absurd cc
+left_open false rotation at number size head printed is place left =
+    omega (arith, leb-false rotation at (sym is), place, length-append head (printed ++ []), length-append printed [])
+
+unit_open : (begins : Bool) (rules : List Rename) (rotation : ℕ) (txn : Transaction) (before : Layout)
+    → IsTrue (not (unit_by begins rules rotation txn before).after.closed) → (unit_by begins rules rotation txn before).after.length < rotation
+unit_open true rules rotation txn before =
+    let at : ℕ = length file_head + printed_length rules txn in
+    left_open (leb rotation at) rotation at (before.file + 1 + 1) 0 file_head (printed_bytes rules txn (length file_head)) refl
+    (omega (arith, length_printed rules txn (length file_head)))
+unit_open false rules rotation txn before =
+    let at : ℕ = before.length + printed_length rules txn in
+    left_open (leb rotation at) rotation at (before.file + 1) before.length [] (printed_bytes rules txn before.length) refl
+    (omega (arith, length_printed rules txn before.length))
+
 pub units_are_steps : UnitsAreSteps
 units_are_steps rules rotation txn before = record {
   number = refl;
   key = refl;
   begins = refl;
+  below = unit_open (begins_file before) rules rotation txn before;
   step = λ output is. subst (λ (layout : Layout). IsStep rules rotation txn (unit_of rules rotation txn layout) output) is (step_from rules rotation txn output);
 }
 

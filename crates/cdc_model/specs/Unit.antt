@@ -1,5 +1,5 @@
 -- Units: the run of bytes that one transaction appends to the output files, and where the output then stands.
-use Rattle.std.specs.Prelude.{◌≡◌, ℕ, ◌+◌, ◌-◌, ◌==◌, nat_le, List, [], ◌∷◌, ◌++◌, length, if◌then◌else◌}
+use Rattle.std.specs.Prelude.{◌≡◌, ℕ, ◌+◌, ◌-◌, ◌<◌, ◌==◌, nat_le, not, IsTrue, List, [], ◌∷◌, ◌++◌, length, if◌then◌else◌}
 use Rattle.cdc_base.specs.declared.rename.Rename.{Rename}
 use Rattle.cdc_model.specs.declared.layout.Layout.{Layout}
 use Rattle.cdc_model.specs.Records.{Transaction, OutputUnit}
@@ -53,11 +53,13 @@ pub record IsStep (rules : List Rename) (rotation : ℕ) (txn : Transaction) (un
   pub files : files_in (output_with rules rotation output txn) ≡ appended_to unit.after.file unit.bytes (files_in output)
   pub layout : layout_in (output_with rules rotation output txn) ≡ unit.after
 
--- a unit is a transaction's: its step for each output that stands where the unit begins
+-- a unit is a transaction's: its step for each output that stands where the unit begins; a file that it leaves open is
+-- below the rotation size
 pub record IsStepFrom (rules : List Rename) (rotation : ℕ) (txn : Transaction) (before : Layout) (unit : OutputUnit) : Type 0 where
   pub number : unit.number ≡ txn.number
   pub key : unit.key ≡ txn.key
   pub begins : unit.before ≡ before
+  pub below : IsTrue (not unit.after.closed) → unit.after.length < rotation
   pub step : (output : Output) → layout_in output ≡ before → IsStep rules rotation txn unit output
 
 -- law: the unit of a transaction is its step
