@@ -4,8 +4,9 @@
 # PROGRAM is the built `cdc_bench`, RUNS how often each is run (5 if left out). The least time counts, in seconds of
 # the processor, since other programs may run beside it. For transactions of two branches, with a table map and ten
 # row events of 100 and of 1,000 bytes each, a line gives the units, the events and the bytes that were made in a
-# second, and how many times longer that takes than to copy as many bytes in memory, 64 MiB at a time. From each time
-# that of a run over one unit is taken off, so that making the transaction and starting the program count for nothing.
+# second, and how many times longer that takes than to copy as many bytes in memory, 64 MiB at a time. (The rows share
+# one body, which stays near the processor; the copy reads and writes memory anew.) From each time that of a run over
+# one unit is taken off, so that making the transaction and starting the program count for nothing.
 set -eu
 
 if [ $# -lt 1 ]; then
