@@ -1,6 +1,6 @@
 //! Units made one after another.
 
-ghost use Rattle.std.specs.Prelude.{◌≤◌, ◌<◌, ◌^◌, IsTrue, IfOk, IfSome};
+ghost use Rattle.std.specs.Prelude.{◌≤◌, ◌<◌, ◌^◌, IsTrue, IfOk};
 ghost use Rattle.std.specs.List.{AllByRecursion};
 ghost use Rattle.cdc_model.specs.Kept.{IsRow, IsKeptKey};
 ghost use Rattle.cdc_model.specs.Layout.{HasRoom};

@@ -1,5 +1,5 @@
 -- Where a print goes, and what is written there.
-use Rattle.std.proofs.Common.{◌≡◌, ℕ, ◌+◌, ◌-◌, ◌^◌, ◌<◌, ◌≤◌, min, leb, ltb, Bool, true, false, IsTrue, not, ◌||◌, ◌==◌, if◌then◌else◌, List, [], ◌++◌, length, codes, decimal, length-append, ap, sym, subst, refl, ◌∙◌, arith}
+use Rattle.std.proofs.Common.{◌≡◌, ℕ, ◌+◌, ◌^◌, ◌<◌, ◌≤◌, leb, ltb, Bool, true, false, IsTrue, not, ◌||◌, ◌==◌, if◌then◌else◌, List, [], ◌++◌, length, codes, decimal, length-append, ap, sym, subst, refl, ◌∙◌, arith}
 use Rattle.std.proofs.lemmas.Fmt.{length-decimal-le}
 use Rattle.cdc_base.specs.declared.rename.Rename.{Rename}
 use Rattle.cdc_event.specs.declared.body.Body.TheVariants.{Rotate}
@@ -137,7 +137,3 @@ unit_is rules rotation size txn before spot run unit length_is spot_is run_is is
 pub unit_steps : (rules : List Rename) (rotation : ℕ) (txn : Transaction) (before : Layout) (unit : OutputUnit) → UnitsAreSteps
     → unit ≡ unit_of rules rotation txn before → IsStepFrom rules rotation txn before unit
 unit_steps rules rotation txn before unit law is = subst (IsStepFrom rules rotation txn before) (sym is) (law rules rotation txn before)
-
--- a length up to the greatest number, where it is a print's that isn't too large
-pub counted : (size printed : ℕ) → size ≡ min printed (2 ^ 64 - 1) → size ≤ 2 ^ 28 → size ≡ printed
-counted size printed is most = omega (arith, is)

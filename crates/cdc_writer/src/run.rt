@@ -2,15 +2,14 @@
 
 ghost use Rattle.std.specs.Prelude.{◌≡◌, ◌+◌, ◌<◌, ◌≤◌, ◌^◌, ◌++◌, [], ◌↔◌, if◌then◌else◌, IsTrue, length, IfOk, IfErr, OnOk};
 ghost use Rattle.cdc_model.specs.Layout.{IsRotation, HasRoom, begins_file, next_file};
-ghost use Rattle.cdc_model.specs.Print.{printed_bytes, printed_length};
+ghost use Rattle.cdc_model.specs.Print.{printed_length};
 ghost use Rattle.cdc_model.specs.Output.{file_head, rotate_event};
 ghost use Rattle.cdc_model.specs.Unit.{unit_of, IsStepFrom};
 ghost use Rattle.cdc_writer.specs.Refusal.{too_large, HasPrintCause};
 ghost use Rattle.cdc_writer.specs.Run.{run_at, unit_at};
 
 use crate::head::{HEAD_LENGTH, write_head};
-use crate::length::print_length;
-use crate::printing::{PRINT_MAX, PrintError};
+use crate::printing::{PrintError, length_within};
 use crate::rotate::{put_rotate, rotate_length};
 use crate::spot::{Spot, place};
 use crate::transaction::put_transaction;
@@ -128,15 +127,9 @@ pub fn unit(
     ensures refused { IfErr result (HasPrintCause names.now txn.now) }
     ensures too_large { (result ≡ Err (too_large names.now txn.now)) ↔ (2 ^ 28 < printed_length names.now txn.now) }
 {
-    let bytes = print_length(txn, names);
-    if bytes > PRINT_MAX {
-        return Err(PrintError::TooLarge {
-            number: txn.number,
-            bytes,
-        });
-    }
+    let length = length_within(txn, names)?;
     units_are_steps();
-    let spot = place(before, rotation, bytes);
-    let run = run_of(alloc, txn, names, &spot, bytes)?;
+    let spot = place(before, rotation, length);
+    let run = run_of(alloc, txn, names, &spot, length)?;
     Ok(unit_with(txn, before, &spot, run))
 }

@@ -1,12 +1,11 @@
 use Rattle.std.proofs.Common.{ap, ◌∙◌, arith}
-use Rattle.cdc_model.specs.Print.{printed_length}
 use Rattle.cdc_writer.specs.declared.spot.Spot.{Spot}
-use Rattle.cdc_writer.proofs.Runs.{place_most, file_most, run_most, run_begins, unit_is, unit_steps, counted}
+use Rattle.cdc_writer.proofs.Runs.{place_most, file_most, run_most, run_begins, unit_is, unit_steps}
 use Rattle.cdc_writer.proofs.run.unit.Goals as goal
 
 pub run_of-requires-clause-end : goal.run_of-requires-clause-end
 run_of-requires-clause-end c =
-    omega (arith, place_most c.args.before.now c.args.rotation c.print_length-bytes.result c.place-spot.result c.requires.before c.place-spot.ensures)
+    omega (arith, c.in_ok-length.ensures.ok.1, place_most c.args.before.now c.args.rotation c.in_ok-length.length c.place-spot.result c.requires.before c.place-spot.ensures)
 
 pub unit_with-requires-clause-begins : goal.unit_with-requires-clause-begins
 unit_with-requires-clause-begins c begins =
@@ -15,11 +14,12 @@ unit_with-requires-clause-begins c begins =
 pub unit_with-requires-clause-most : goal.unit_with-requires-clause-most
 unit_with-requires-clause-most c =
     run_most c.args.names.now c.args.txn.now c.place-spot.result c.in_ok-run.run' c.in_ok-run.ensures
-    (file_most c.args.before.now c.args.rotation c.print_length-bytes.result c.place-spot.result c.requires.before c.place-spot.ensures) (omega arith)
+    (file_most c.args.before.now c.args.rotation c.in_ok-length.length c.place-spot.result c.requires.before c.place-spot.ensures)
+    (omega (arith, c.in_ok-length.ensures.ok.0, c.in_ok-length.ensures.ok.1))
 
 pub returns-clause-step : goal.returns-clause-step
 returns-clause-step c =
     unit_steps c.args.names.now c.args.rotation c.args.txn.now c.args.before.now c.unit_with.result c.units_are_steps.ensures
-    (unit_is c.args.names.now c.args.rotation c.print_length-bytes.result c.args.txn.now c.args.before.now c.place-spot.result c.in_ok-run.run' c.unit_with.result
-    (counted c.print_length-bytes.result (printed_length c.args.names.now c.args.txn.now) c.print_length-bytes.ensures (omega arith))
+    (unit_is c.args.names.now c.args.rotation c.in_ok-length.length c.args.txn.now c.args.before.now c.place-spot.result c.in_ok-run.run' c.unit_with.result
+    c.in_ok-length.ensures.ok.0
     c.place-spot.ensures c.in_ok-run.ensures c.unit_with.ensures)
