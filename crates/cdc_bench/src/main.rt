@@ -2,22 +2,29 @@
 //!
 //! `cdc_bench read row SIZE COUNT` reads COUNT row events of SIZE bytes each, header included, one after another as a
 //! reader of logs does, and prints how many it read and how many bytes they had. They stand in one log in memory of
-//! at most 64 MiB, which is gone over again and again; making it takes the same time whatever COUNT is. Any other
-//! words are answered by the usage and status 2.
+//! at most 64 MiB, which is gone over again and again; making it takes the same time whatever COUNT is.
+//!
+//! `cdc_bench unit row SIZE COUNT` makes COUNT units, each behind the one before, of one transaction of two branches,
+//! which have a table map and ten row events of SIZE bytes each, and prints how many it made and how many bytes they
+//! had. Files are closed at 2^30 bytes.
+//!
+//! Any other words are answered by the usage and status 2.
 #![tactic(auto)]
 
 ghost use Rattle.std.specs.Prelude.{◌≤◌, ◌^◌};
 
 mod reading;
 mod rows;
+mod units;
 mod words;
 
 use crate::reading::read_events;
 use crate::rows::row_log;
-use crate::words::{Work, words_of, work_of};
+use crate::units::{make_units, row_transaction};
+use crate::words::{Task, Work, words_of, work_of};
 use cdc_base::Memory;
 use std::alloc::Global;
-use std::io::{Eprint, Print};
+use std::io::{self, Eprint, Print};
 use std::process::ExitCode;
 use std::rt::Env;
 
@@ -30,26 +37,47 @@ const USAGE: u8 = 2;
 /// The status where there was no memory.
 const NO_MEMORY: u8 = 8;
 
-/// Does the work, and answers the events' bytes; none where an event couldn't be read.
+/// Makes units, and answers how many bytes they had.
+fn units_made(alloc: Global, work: &Work) -> Result<Option<u64>, Memory>
+    requires { work.now.size ≤ 2 ^ 26 }
+{
+    match row_transaction(alloc, work.size)? {
+        Some(txn) => make_units(alloc, &txn, work.count),
+        None => Ok(None),
+    }
+}
+
+/// Does the work, and answers how many bytes were read or made; none where an event couldn't be read, or a unit
+/// wasn't made.
 fn do_work(alloc: Global, work: &Work) -> Result<Option<u64>, Memory>
     requires least { 19 ≤ work.now.size }
     requires most { work.now.size ≤ 2 ^ 26 }
 {
-    let log = row_log(alloc, work.size)?;
-    read_events(&log, work.count)
+    match work.task {
+        Task::ReadRows => read_events(&row_log(alloc, work.size)?, work.count),
+        Task::MakeUnits => units_made(alloc, work),
+    }
+}
+
+/// The line that says what was done.
+fn print_done<R: Print>(rt: &R, work: &Work, bytes: u64) -> io::Result<()> {
+    match work.task {
+        Task::ReadRows => println!(rt; "read {} events {bytes} bytes", work.count),
+        Task::MakeUnits => println!(rt; "made {} units {bytes} bytes", work.count),
+    }
 }
 
 /// Does what the words say, and answers the status.
 fn answer<R: AllocGlobal + Eprint + Env + Print>(rt: &R) -> Result<u8, Memory> {
     let words = words_of(rt)?;
     let Some(work) = work_of(words.as_slice()) else {
-        let _printed = eprintln!(rt; "usage: cdc_bench read row SIZE COUNT");
+        let _printed = eprintln!(rt; "usage: cdc_bench read|unit row SIZE COUNT");
         return Ok(USAGE);
     };
     let Some(bytes) = do_work(rt.alloc(), &work)? else {
         return Ok(FAILED);
     };
-    match println!(rt; "read {} events {bytes} bytes", work.count) {
+    match print_done(rt, &work, bytes) {
         Ok(()) => Ok(0),
         Err(_) => Ok(FAILED),
     }

@@ -8,12 +8,22 @@ use cdc_event::HEADER_LENGTH;
 use std::env;
 use std::rt::Env;
 
-/// What is timed: the reading of row events.
+/// What is timed.
+#[derive(Clone, Copy, Debug)]
+pub enum Task {
+    /// The reading of row events.
+    ReadRows,
+    /// The making of units.
+    MakeUnits,
+}
+
+/// A task, and how much of it.
 #[derive(Clone, Copy, Debug)]
 pub struct Work {
-    /// The bytes of each event, header included.
+    pub task: Task,
+    /// The bytes of each row event, header included.
     pub size: u32,
-    /// How many events are read.
+    /// How many events are read, or units made.
     pub count: u64,
 }
 
@@ -39,16 +49,26 @@ fn size_of(word: &str) -> Option<u32>
     }
 }
 
-/// What the words ask for: `read`, `row`, an event's size and how many of them. None for any others.
+/// The task of a word.
+fn task_of(word: &str) -> Option<Task> {
+    match word {
+        "read" => Some(Task::ReadRows),
+        "unit" => Some(Task::MakeUnits),
+        _ => None,
+    }
+}
+
+/// What the words ask for: `read` or `unit`, `row`, a row event's size and how many. None for any others.
 pub fn work_of(words: &[Text]) -> Option<Work>
     ensures least { IfSome result (λ work. 19 ≤ work.size) }
     ensures most { IfSome result (λ work. work.size ≤ 2 ^ 26) }
 {
     match words {
-        [what, which, size, count] if what.as_str() == "read" && which.as_str() == "row" => {
+        [task, which, size, count] if which.as_str() == "row" => {
+            let task = task_of(task.as_str())?;
             let size = size_of(size.as_str())?;
             let count = count.as_str().parse::<u64>().ok()?;
-            Some(Work { size, count })
+            Some(Work { task, size, count })
         }
         _ => None,
     }

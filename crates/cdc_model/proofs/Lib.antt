@@ -23,3 +23,4 @@ mod GroupSteps
 mod GroupReading
 mod GroupOutcome
 mod LogReading
+mod Units

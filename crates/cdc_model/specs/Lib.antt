@@ -1,4 +1,5 @@
 pub mod Records
+pub mod Layout
 pub mod Kept
 pub mod Log
 pub mod Sign
@@ -12,3 +13,4 @@ pub mod Branch
 pub mod Print
 pub mod Transaction
 pub mod Output
+pub mod Unit

@@ -20,6 +20,7 @@ mod settled;
 mod soundness;
 mod start;
 mod transaction;
+mod unit;
 mod watermark;
 
 pub use branch::{Branch, BranchList};
@@ -34,7 +35,7 @@ pub use grammar_laws::{
 pub use laws::{
     files_are_whole, grown_log_continues, log_prefix_is_an_order, mark_is_greatest, mark_is_least,
     node_mark_is_least, numbers_count, one_more_is_one_step, open_as_newest_says, order_is_exact,
-    settled_fit, settled_is_exact, sound_is_longest,
+    settled_fit, settled_is_exact, sound_is_longest, units_are_steps, units_make_files,
 };
 pub use layout::Layout;
 pub use order::{all_branches, first_key, ordered_transactions};
@@ -43,4 +44,5 @@ pub use settled::{KeyList, is_settled, settled_keys};
 pub use soundness::{entry_fault, reached, sound_count};
 pub use start::{NodeLog, OpenList, Opened, StartingPoint};
 pub use transaction::{Txn, TxnList};
+pub use unit::Unit;
 pub use watermark::{low_water_mark, node_low_water_mark};
