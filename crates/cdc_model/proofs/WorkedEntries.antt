@@ -12,7 +12,7 @@ use Rattle.cdc_model.specs.declared.fault.GroupFault.{GroupFault}
 use Rattle.cdc_model.specs.declared.fault.GroupFault.TheVariants.{NoTimestamp, BadTimestamp, Statement, XidDiffers, RowsOutside, OutOfPlace, BadDdl}
 use Rattle.cdc_model.specs.Records.{Row, LogEntry}
 use Rattle.cdc_model.specs.Print.{statement_in}
-use Rattle.cdc_model.specs.Sign.{Sign, SignedEvent, Gtid, Quiet, Ddl, Marked, CommitTime, BeatTime, NoTime, RowEvent, NumberEvent, PrepareEvent, BeginText, CommitText, RollbackText, SavepointText, XaStartText, XaEndText, XaCommitText, XaRollbackText, OtherText, Foreign, sign_of_verb, sign_of_body}
+use Rattle.cdc_model.specs.Sign.{Sign, SignedEvent, Gtid, Quiet, Ddl, Marked, CommitTime, BeatTime, NoTime, RowEvent, NumberEvent, PrepareEvent, BeginText, CommitText, RollbackText, SavepointText, XaStartText, XaEndText, XaCommitText, XaRollbackText, OtherText, Foreign, sign_of_verb, sign_of_body, signed}
 use Rattle.cdc_model.specs.Group.{TableRows, OneStatement, Stage, Out, Wait, Xa, End, Local}
 use Rattle.cdc_model.specs.Misfit.{misfit}
 use Rattle.cdc_model.proofs.GroupMachine.{Ending, Reached, Misplaced, outcome}
@@ -136,6 +136,12 @@ signs_of_marks : map (λ (text : List ℕ). sign_of_body 29 (RowsQuery 0 text)) 
     ∷ Marked ∷ Quiet ∷ Quiet ∷ Quiet ∷ []
 unfolding statement_in
 signs_of_marks = refl
+
+-- an event keeps its place, the setting behind it, and its seconds
+a_beat_signed : signed (record { at = 123; end = 151; event = record { header = record { seconds = 5; kind = 200; server = 9; length = 28; next = 151; flags = 0 };
+        body = Timestamp 2 10 }; checksum = 1 })
+    ≡ record { at = 123; end = 151; checksum = 1; seconds = 5; sign = BeatTime 10 }
+a_beat_signed = refl
 
 -- ---- logs: events laid one behind another, each as its length and its sign
 
