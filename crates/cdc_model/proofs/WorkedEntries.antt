@@ -138,8 +138,15 @@ unfolding statement_in
 signs_of_marks = refl
 
 -- an event keeps its place, the setting behind it, and its seconds
-a_beat_signed : signed (record { at = 123; end = 151; event = record { header = record { seconds = 5; kind = 200; server = 9; length = 28; next = 151; flags = 0 };
-        body = Timestamp 2 10 }; checksum = 1 })
+a_beat_signed : signed (record {
+  at = 123;
+  end = 151;
+  event = record {
+    header = record { seconds = 5; kind = 200; server = 9; length = 28; next = 151; flags = 0 };
+    body = Timestamp 2 10;
+  };
+  checksum = 1;
+})
     ≡ record { at = 123; end = 151; checksum = 1; seconds = 5; sign = BeatTime 10 }
 a_beat_signed = refl
 

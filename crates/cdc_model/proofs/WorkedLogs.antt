@@ -140,6 +140,93 @@ beat_first =
       ),
     ))
 
+-- ---- the same with checksums: the format event names algorithm 1, and the beat behind it ends with four bytes more
+
+abbrev format_1 : Event
+format_1 = record { header = format_header; body = Format (codes "5.7.0-cdc" ++ replicate 41 0) 0 post_headers 1 0 }
+
+abbrev long_header : Header
+long_header = record { seconds = 5; kind = 200; server = 9; length = 32; next = 155; flags = 0 }
+
+abbrev beat_1 : Event
+beat_1 = record { header = record { seconds = 5; kind = 200; server = 9; length = 28; next = 155; flags = 0 }; body = Timestamp 2 10 }
+
+abbrev long_body : List ℕ
+long_body = body_bytes beat_1.body ++ (1 ∷ 2 ∷ 3 ∷ 4 ∷ [])
+
+abbrev long_beat : List ℕ
+long_beat = header_bytes long_header ++ long_body
+
+encoded_format_1 : Encodes format_1 (event_bytes format_1)
+unfolding low_first header_bytes body_bytes post_headers FitsBody
+encoded_format_1 = record {
+  fits = record { header = fits_format; body = (refl, lit≤ tt, lit≤ tt, lit≤ tt); kind = refl; whole = refl; most = lit≤ tt };
+  spelled = refl;
+}
+
+encoded_beat_1 : Encodes beat_1 (event_bytes beat_1)
+unfolding low_first header_bytes body_bytes FitsBody
+encoded_beat_1 = record {
+  fits = record {
+    header = record { seconds = lit≤ tt; kind = lit≤ tt; server = lit≤ tt; next = lit≤ tt; flags = lit≤ tt };
+    body = (lit≤ tt, lit≤ tt);
+    kind = refl;
+    whole = refl;
+    most = lit≤ tt;
+  };
+  spelled = refl;
+}
+
+whole_format_1 : IsWhole true 0 (event_bytes format_1) format_1
+unfolding low_first header_bytes body_bytes post_headers
+whole_format_1 = record {
+  header = format_header;
+  body = body_bytes format_1.body;
+  begins = record { fits = fits_format; small = lit≤ tt; spelled = refl };
+  counted = refl;
+  good = record { least = lit≤ tt; most = lit≤ tt };
+  placed = refl;
+  known = lit≤ tt;
+  spelled = encoded_format_1;
+}
+
+whole_beat_1 : IsWhole false 1 long_beat beat_1
+unfolding low_first header_bytes body_bytes
+whole_beat_1 = record {
+  header = long_header;
+  body = long_body;
+  begins = record {
+    fits = record { seconds = lit≤ tt; kind = lit≤ tt; server = lit≤ tt; next = lit≤ tt; flags = lit≤ tt };
+    small = lit≤ tt;
+    spelled = refl;
+  };
+  counted = refl;
+  good = record { least = lit≤ tt; most = lit≤ tt };
+  placed = refl;
+  known = tt;
+  spelled = encoded_beat_1;
+}
+
+-- the setting holds behind the beat too
+read_with_checksums : AreFileEvents (magic ++ (event_bytes format_1 ++ (long_beat ++ [])))
+    (record { at = 4; end = 123; event = format_1; checksum = 1 } ∷ record { at = 123; end = 155; event = beat_1; checksum = 1 } ∷ []) None
+unfolding low_first header_bytes body_bytes post_headers
+read_with_checksums =
+    inr (inr (
+      event_bytes format_1 ++ (long_beat ++ []),
+      refl,
+      (
+        event_bytes format_1,
+        long_beat ++ [],
+        refl,
+        whole_format_1,
+        refl,
+        refl,
+        refl,
+        (long_beat, [], refl, whole_beat_1, refl, refl, refl, in_header (lit≤ tt)),
+      ),
+    ))
+
 -- ---- entries of files and logs
 
 abbrev beat_entry : ℕ → LogEntry
