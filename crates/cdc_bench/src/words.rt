@@ -2,15 +2,24 @@
 
 ghost use Rattle.std.specs.Prelude.{◌≤◌, ◌^◌, IfSome};
 
-use crate::rows::LOG_MAX;
 use cdc_base::{Memory, Text, TextList};
-use cdc_event::HEADER_LENGTH;
+use cdc_event::{HEADER_LENGTH, LENGTH_MAX};
 use std::env;
 use std::rt::Env;
+
+/// How events are read.
+#[derive(Clone, Copy, Debug)]
+pub enum How {
+    /// Each at its place in memory.
+    Read,
+    /// By a cutter, from pieces.
+    Cut,
+}
 
 /// What is timed: the reading of row events.
 #[derive(Clone, Copy, Debug)]
 pub struct Work {
+    pub how: How,
     /// The bytes of each event, header included.
     pub size: u32,
     /// How many events are read.
@@ -28,27 +37,37 @@ pub fn words_of<R: AllocGlobal + Env>(rt: &R) -> Result<TextList, Memory> {
     Ok(words)
 }
 
-/// The size of an event, in figures: at least a header, and at most a log.
+/// The size of an event, in figures: at least a header, and at most what an event may have.
 fn size_of(word: &str) -> Option<u32>
     ensures least { IfSome result (λ size. 19 ≤ size) }
-    ensures most { IfSome result (λ size. size ≤ 2 ^ 26) }
+    ensures most { IfSome result (λ size. size ≤ 2 ^ 27) }
 {
     match word.parse::<u32>() {
-        Ok(size) if size >= HEADER_LENGTH as u32 && size <= LOG_MAX => Some(size),
+        Ok(size) if size >= HEADER_LENGTH as u32 && size <= LENGTH_MAX => Some(size),
         _ => None,
     }
 }
 
-/// What the words ask for: `read`, `row`, an event's size and how many of them. None for any others.
+/// What the first word says.
+fn how_of(word: &str) -> Option<How> {
+    match word {
+        "read" => Some(How::Read),
+        "cut" => Some(How::Cut),
+        _ => None,
+    }
+}
+
+/// What the words ask for: `read` or `cut`, `row`, an event's size and how many of them. None for any others.
 pub fn work_of(words: &[Text]) -> Option<Work>
     ensures least { IfSome result (λ work. 19 ≤ work.size) }
-    ensures most { IfSome result (λ work. work.size ≤ 2 ^ 26) }
+    ensures most { IfSome result (λ work. work.size ≤ 2 ^ 27) }
 {
     match words {
-        [what, which, size, count] if what.as_str() == "read" && which.as_str() == "row" => {
+        [how, which, size, count] if which.as_str() == "row" => {
+            let how = how_of(how.as_str())?;
             let size = size_of(size.as_str())?;
             let count = count.as_str().parse::<u64>().ok()?;
-            Some(Work { size, count })
+            Some(Work { how, size, count })
         }
         _ => None,
     }

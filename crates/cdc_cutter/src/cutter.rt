@@ -192,6 +192,16 @@ impl Cutter {
         self.step()
     }
 
+    /// The file, and the place in it behind the last byte that was fed; after a fault, behind the last that was taken.
+    pub fn fed_to(&self) -> Place
+        ensures { result ≡ record { file = self.now.file; at = self.now.at + length self.now.rest } }
+    {
+        Place {
+            at: self.place.at + self.pending.len(),
+            ..self.place
+        }
+    }
+
     /// Drops what is left of the file, and goes to byte 0 of the next one. After a fault nothing changes.
     pub fn next_file(&mut self)
         requires { self.old.file < 2 ^ 32 - 1 }

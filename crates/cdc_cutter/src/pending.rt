@@ -1,6 +1,6 @@
 //! The bytes that aren't cut yet.
 
-ghost use Rattle.std.specs.Prelude.{◌≡◌, ◌<◌, ◌≤◌, ◌++◌, [], length, drop, None, IfSome, IfOk, OnOk, OnErr};
+ghost use Rattle.std.specs.Prelude.{◌≡◌, ◌<◌, ◌≤◌, ◌++◌, ◌^◌, [], length, drop, None, IfSome, IfOk, OnOk, OnErr};
 ghost use Rattle.cdc_event.specs.File.{BeginsWith};
 ghost use Rattle.cdc_cutter.specs.Looks.{Sees, IsAllIn};
 
@@ -61,6 +61,14 @@ impl Pending {
             front: Blob::empty(),
             tail: Buffer::new(alloc),
         }
+    }
+
+    /// How many bytes there are.
+    pub fn len(&self) -> u64
+        requires { length (self.now.front ++ self.now.tail) < 2 ^ 63 }
+        ensures { result ≡ length (self.now.front ++ self.now.tail) }
+    {
+        self.front.len() as u64 + self.tail.len() as u64
     }
 
     // All bytes in the tail. A front that is left is less than one event, so each byte comes here once at most.
