@@ -48,7 +48,8 @@ M F0 h3,19 h3,20 00 h3,19 = 1:4-123 15 0, 1:123-142 3 0, 1:142-162 3 0, 1:162-18
 const LONG: &str = "M F0 S E R F1 S+ E+ R+ T+ C+";
 
 /// What it is cut into.
-const LONG_EVENTS: &str = "1:4-123 15 0, 1:123-178 2 0, 1:178-231 2 0, 1:231-265 38 0, 1:265-384 15 1, 1:384-443 2 1, 1:443-500 2 1, 1:500-538 38 1, 1:538-570 200 1, 1:570-630 2 1, need";
+const LONG_EVENTS: &str =
+    "1:4-123 15 0, 1:123-178 2 0, 1:178-231 2 0, 1:231-265 38 0, 1:265-384 15 1, 1:384-443 2 1, 1:443-500 2 1, 1:500-538 38 1, 1:538-570 200 1, 1:570-630 2 1, need";
 
 #[test]
 fn logs_are_cut_whatever_the_pieces(rt: HostRuntime) -> Result<(), Fail> {
@@ -98,17 +99,20 @@ fn end_of(event: &str) -> Result<(usize, u8), Fail> {
     Ok((end.parse::<usize>()?, setting.parse::<u8>()?))
 }
 
-// The events that end within so many bytes.
-fn events_within(alloc: Global, bytes: usize) -> Result<String, Fail> {
+// The events that end behind one byte and up to another.
+fn events_between(alloc: Global, from: usize, to: usize) -> Result<String, Fail> {
     let mut told = String::new(alloc);
     for event in LONG_EVENTS.split(", ") {
-        if event == "need" || bytes < end_of(event)?.0 {
-            told.push_str("need")?;
-            return Ok(told);
+        if event == "need" {
+            break;
         }
-        told.push_str(event)?;
-        told.push_str(", ")?;
+        let end = end_of(event)?.0;
+        if from < end && end <= to {
+            told.push_str(event)?;
+            told.push_str(", ")?;
+        }
     }
+    told.push_str("need")?;
     Ok(told)
 }
 
@@ -119,7 +123,11 @@ fn a_front_has_the_events_that_end_in_it(rt: HostRuntime) -> Result<(), Fail> {
         let front = log.get(..bytes).ok_or("no such front")?;
         let mut cutter = Cutter::new(rt.alloc())?;
         let told = answers(rt.alloc(), &mut cutter, front, 1_000)?;
-        assert_eq!(&rt; told, events_within(rt.alloc(), bytes)?, "{bytes} bytes");
+        assert_eq!(&rt;
+            told,
+            events_between(rt.alloc(), 0, bytes)?,
+            "{bytes} bytes"
+        );
     }
     Ok(())
 }
@@ -127,8 +135,10 @@ fn a_front_has_the_events_that_end_in_it(rt: HostRuntime) -> Result<(), Fail> {
 #[test]
 fn from_an_events_end_on_the_events_behind_it_are_read(rt: HostRuntime) -> Result<(), Fail> {
     let log = log_of(rt.alloc(), LONG)?;
-    let mut left = LONG_EVENTS;
-    while let Some((event, behind)) = left.split_once(", ") {
+    for event in LONG_EVENTS.split(", ") {
+        if event == "need" {
+            return Ok(());
+        }
         let (at, checksum) = end_of(event)?;
         if checksum > 1 || at > 1_000 {
             return Err("no such setting")?;
@@ -139,8 +149,12 @@ fn from_an_events_end_on_the_events_behind_it_are_read(rt: HostRuntime) -> Resul
             at: at as u64,
         };
         let mut cutter = Cutter::resumed(rt.alloc(), place, checksum)?;
-        assert_eq!(&rt; answers(rt.alloc(), &mut cutter, rest, 7)?.as_str(), behind, "from {at}");
-        left = behind;
+        let told = answers(rt.alloc(), &mut cutter, rest, 7)?;
+        assert_eq!(&rt;
+            told,
+            events_between(rt.alloc(), at, log.len())?,
+            "from {at}"
+        );
     }
     Ok(())
 }
@@ -170,13 +184,18 @@ fn a_reading_goes_on_under_the_setting_that_it_is_given(rt: HostRuntime) -> Resu
             at: u64::from(at),
         };
         let mut cutter = Cutter::resumed(rt.alloc(), place, checksum)?;
-        assert_eq!(&rt; answers(rt.alloc(), &mut cutter, &log, 5)?.as_str(), wanted, "{row}");
+        assert_eq!(&rt;
+            answers(rt.alloc(), &mut cutter, &log, 5)?.as_str(),
+            wanted,
+            "{row}"
+        );
     }
     Ok(())
 }
 
 /// Files one behind another, and the answers of each.
-const FILES: &str = "M F1 S+ / M F0 S = 1:4-123 15 1, 1:123-182 2 1, need; 2:4-123 15 0, 2:123-178 2 0, need;
+const FILES: &str =
+    "M F1 S+ / M F0 S = 1:4-123 15 1, 1:123-182 2 1, need; 2:4-123 15 0, 2:123-178 2 0, need;
 M F0 S / M F1 S+ = 1:4-123 15 0, 1:123-178 2 0, need; 2:4-123 15 1, 2:123-182 2 1, need;
 M F1 S+ / M h2,22 = 1:4-123 15 1, 1:123-182 2 1, need; need;
 M F1 S+ / M S+ = 1:4-123 15 1, 1:123-182 2 1, need; 2:4 Event(BadFormat);
