@@ -5,8 +5,9 @@
 # out). The least time counts, in seconds of the processor, since other programs may run beside it. For row events of 30,
 # 300 and 3,000 bytes, about 1 GB of each, and for events of 100 MB a line gives the bytes that were cut in a second, the
 # most memory that the program had, that of the same program where it only reads its log, and, with a yardstick, the time
-# of `yard parse` over the same events in files and how many times longer the program takes. From each time that of a
-# run over one log is taken off, so that making the log and starting the program count for nothing.
+# of `yard parse` over the same events in mapped files and by reads of 64 KiB (`-r 1`), and how many times longer the
+# program takes. Over mapped files the yardstick copies nothing, and of a long event it touches the header alone. From
+# each time that of a run over one log is taken off, so that making the log and starting the program count for nothing.
 set -eu
 
 if [ $# -lt 1 ]; then
@@ -46,15 +47,19 @@ def program_run(how, size, count):
     return measured([program, how, "row", str(size), str(count)], f"read {count} events {count * size} bytes\n")
 
 
-def parse(size, held, logs):
-    """The seconds of the yardstick over so many files of a log each."""
-    path = os.path.join(room, "log")
+def write_log(path, size, held):
+    """A file with so many events."""
     event = struct.pack("<IBIIIH", 0, 30, 1, size, 0, 0) + bytes(size - 19)
     with open(path, "wb") as sink:
         sink.write(b"\xfebin")
         for _ in range(held):
             sink.write(event)
-    took = [measured([os.path.join(yardstick, "yard"), "parse", ",".join([path] * count)])[0] for count in (1, logs + 1)]
+
+
+def parse(path, logs, options):
+    """The seconds of the yardstick over so many files of a log each."""
+    yard = [os.path.join(yardstick, "yard"), "parse", *options]
+    took = [measured(yard + [",".join([path] * count)])[0] for count in (1, logs + 1)]
     return took[1] - took[0]
 
 
@@ -68,7 +73,10 @@ for size, logs in ((30, 15), (300, 15), (3_000, 15), (100_000_000, 10)):
     line = (f"row events of {size} bytes: {count} in {1000 * took:.0f} ms, {count * size / took / 1e6:.0f} MB/s, "
             f"{most} MiB at most ({reading} MiB where the log is only read)")
     if yardstick:
-        hand = parse(size, held, logs)
-        line += f"; yardstick {1000 * hand:.0f} ms, {count * size / hand / 1e6:.0f} MB/s, ratio {took / hand:.2f}"
+        path = os.path.join(room, "log")
+        write_log(path, size, held)
+        for name, options in (("mapped", []), ("read", ["-r", "1"])):
+            hand = max(parse(path, logs, options), 0.001)
+            line += f"; yardstick, {name}: {1000 * hand:.0f} ms, ratio {took / hand:.2f}"
     print(line, flush=True)
 PYTHON

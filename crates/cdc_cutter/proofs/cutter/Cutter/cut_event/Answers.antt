@@ -3,12 +3,13 @@ use Rattle.cdc_event.specs.declared.fault.ReadError.TheVariants.{Fault as IsFaul
 use Rattle.cdc_event.specs.declared.fault.FileFault.TheVariants.{Event as EventIsFaulty}
 use Rattle.cdc_event.specs.File.{BeginsWith, IsFaulty, by_length, IsWhole}
 use Rattle.cdc_event.proofs.FileReading.{faulty_more}
+use Rattle.cdc_event.proofs.FilePieces.{begins_less}
 use Rattle.cdc_cutter.specs.declared.pending.Look.TheVariants.{Unfinished, Wrong, Whole}
 use Rattle.cdc_cutter.specs.declared.stage.Stage.TheVariants.{Faulty}
 use Rattle.cdc_cutter.specs.declared.cut.Cut.TheVariants.{Fault as GivesFault}
 use Rattle.cdc_cutter.specs.Looks.{Sees, IsAllIn}
 use Rattle.cdc_cutter.specs.Cutting.{Cutting}
-use Rattle.cdc_cutter.proofs.Pieces.{begins_less, waits, stops, cuts}
+use Rattle.cdc_cutter.proofs.Pieces.{waits, stops, cuts}
 use Rattle.cdc_cutter.proofs.cutter.Cutter.cut_event.Goals as goal
 
 pub read_whole-requires-clause-begins : goal.read_whole-requires-clause-begins
