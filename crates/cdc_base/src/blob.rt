@@ -1,6 +1,6 @@
 //! Bytes that are shared, not copied.
 
-ghost use Rattle.std.specs.Prelude.{◌≡◌, ◌≤◌, ◌==◌, [], length, slice_range, IfOk};
+ghost use Rattle.std.specs.Prelude.{◌≡◌, ◌≤◌, ◌==◌, [], length, drop, slice_range, IfOk};
 
 use crate::memory::Memory;
 use bytes::Bytes;
@@ -67,6 +67,14 @@ impl Blob {
         Ok(Blob {
             bytes: self.bytes.slice(from..to)?,
         })
+    }
+
+    /// Drops the first `by` bytes.
+    pub fn advance(&mut self, by: usize)
+        requires { by ≤ length self.old }
+        ensures { self.new ≡ drop by self.old }
+    {
+        self.bytes.advance(by);
     }
 
     /// The same bytes, shared with this blob.

@@ -1,6 +1,6 @@
 //! Bytes that grow.
 
-ghost use Rattle.std.specs.Prelude.{◌≡◌, ◌≤◌, [], ◌++◌, length, take, IfOk, OnOk, OnErr};
+ghost use Rattle.std.specs.Prelude.{◌≡◌, ◌≤◌, [], ◌++◌, length, take, drop, IfOk, OnOk, OnErr};
 
 use crate::blob::Blob;
 use crate::memory::Memory;
@@ -78,6 +78,24 @@ impl Buffer {
         ensures { self.new ≡ take to self.old }
     {
         self.bytes.truncate(to);
+    }
+
+    /// Drops the first `by` bytes.
+    pub fn advance(&mut self, by: usize)
+        requires { by ≤ length self.old }
+        ensures { self.new ≡ drop by self.old }
+    {
+        self.bytes.advance(by);
+    }
+
+    /// The first `to` bytes, to be shared; those behind them stay. On `Memory` nothing changes.
+    pub fn freeze_to(&mut self, to: usize) -> Result<Blob, Memory>
+        requires { to ≤ length self.old }
+        ensures front { IfOk result (λ blob. blob ≡ take to self.old) }
+        ensures rest { OnOk result (self.new ≡ drop to self.old) }
+        ensures err { OnErr result (self.new ≡ self.old) }
+    {
+        Ok(Blob::from_bytes(self.bytes.freeze_to(to)?))
     }
 
     /// The bytes, to be shared. On `Memory` the buffer is spent.

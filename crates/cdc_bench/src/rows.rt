@@ -7,8 +7,8 @@ use cdc_base::{Blob, Buffer, Memory};
 use cdc_event::{Body, Event, HEADER_LENGTH, Header, write_event};
 use std::alloc::Global;
 
-/// The most bytes that a log has.
-pub const LOG_MAX: u32 = 1 << 26;
+/// The bytes of a log of more than one event.
+const LOG_ROOM: u32 = 1 << 26;
 
 /// The type of a row event: rows inserted.
 const ROWS: u8 = 30;
@@ -27,7 +27,7 @@ fn zeros(alloc: Global, count: usize) -> Result<Blob, Memory>
 #[tactic(auto, unfolding(cdc_event::specs::Event::body_bytes, cdc_event::specs::Event::FitsBody))]
 fn row_event(alloc: Global, size: u32) -> Result<Event, Memory>
     requires least { 19 ≤ size }
-    requires most { size ≤ 2 ^ 26 }
+    requires most { size ≤ 2 ^ 27 }
     ensures { IfOk result IsEvent }
 {
     let bytes = zeros(alloc, size as usize - HEADER_LENGTH)?;
@@ -45,14 +45,14 @@ fn row_event(alloc: Global, size: u32) -> Result<Event, Memory>
     })
 }
 
-/// A log of as many equal row events of `size` bytes, header included, as 64 MiB hold.
+/// A log of as many equal row events of `size` bytes, header included, as 64 MiB hold, and of one at least.
 pub fn row_log(alloc: Global, size: u32) -> Result<Blob, Memory>
     requires least { 19 ≤ size }
-    requires most { size ≤ 2 ^ 26 }
+    requires most { size ≤ 2 ^ 27 }
 {
     let event = row_event(alloc, size)?;
-    let mut log = Buffer::with_room(alloc, LOG_MAX as usize)?;
-    for _ in 0..LOG_MAX / size {
+    let mut log = Buffer::with_room(alloc, LOG_ROOM.max(size) as usize)?;
+    for _ in 0..(LOG_ROOM / size).max(1) {
         write_event(&event, &mut log)?;
     }
     log.freeze()

@@ -2,17 +2,18 @@
 
 ghost use Rattle.std.specs.Prelude.{◌≤◌, ◌^◌, IfSome};
 
-use crate::rows::LOG_MAX;
 use cdc_base::{Memory, Text, TextList};
-use cdc_event::HEADER_LENGTH;
+use cdc_event::{HEADER_LENGTH, LENGTH_MAX};
 use std::env;
 use std::rt::Env;
 
 /// What is timed.
 #[derive(Clone, Copy, Debug)]
 pub enum Task {
-    /// The reading of row events.
+    /// The reading of row events, each at its place in memory.
     ReadRows,
+    /// The cutting of row events from pieces.
+    CutRows,
     /// The making of units.
     MakeUnits,
 }
@@ -38,13 +39,13 @@ pub fn words_of<R: AllocGlobal + Env>(rt: &R) -> Result<TextList, Memory> {
     Ok(words)
 }
 
-/// The size of an event, in figures: at least a header, and at most a log.
+/// The size of an event, in figures: at least a header, and at most what an event may have.
 fn size_of(word: &str) -> Option<u32>
     ensures least { IfSome result (λ size. 19 ≤ size) }
-    ensures most { IfSome result (λ size. size ≤ 2 ^ 26) }
+    ensures most { IfSome result (λ size. size ≤ 2 ^ 27) }
 {
     match word.parse::<u32>() {
-        Ok(size) if size >= HEADER_LENGTH as u32 && size <= LOG_MAX => Some(size),
+        Ok(size) if size >= HEADER_LENGTH as u32 && size <= LENGTH_MAX => Some(size),
         _ => None,
     }
 }
@@ -53,15 +54,16 @@ fn size_of(word: &str) -> Option<u32>
 fn task_of(word: &str) -> Option<Task> {
     match word {
         "read" => Some(Task::ReadRows),
+        "cut" => Some(Task::CutRows),
         "unit" => Some(Task::MakeUnits),
         _ => None,
     }
 }
 
-/// What the words ask for: `read` or `unit`, `row`, a row event's size and how many. None for any others.
+/// What the words ask for: `read`, `cut` or `unit`, `row`, a row event's size and how many. None for any others.
 pub fn work_of(words: &[Text]) -> Option<Work>
     ensures least { IfSome result (λ work. 19 ≤ work.size) }
-    ensures most { IfSome result (λ work. work.size ≤ 2 ^ 26) }
+    ensures most { IfSome result (λ work. work.size ≤ 2 ^ 27) }
 {
     match words {
         [task, which, size, count] if which.as_str() == "row" => {

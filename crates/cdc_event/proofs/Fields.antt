@@ -28,7 +28,7 @@ take_bytes zero bytes h = record { below = none_below }
 take_bytes (suc n) [] h = record { below = none_below }
 take_bytes (suc n) (byte ∷ bytes) h = record { below = cons_below byte (take n bytes) (h.below 0) (take_bytes n bytes (tail_bytes byte bytes h)) }
 
-drop_bytes : (n : ℕ) (bytes : List ℕ) → AreBytes bytes → AreBytes (drop n bytes)
+pub drop_bytes : (n : ℕ) (bytes : List ℕ) → AreBytes bytes → AreBytes (drop n bytes)
 drop_bytes zero bytes h = h
 drop_bytes (suc n) [] h = record { below = none_below }
 drop_bytes (suc n) (byte ∷ bytes) h = drop_bytes n bytes (tail_bytes byte bytes h)

@@ -33,7 +33,7 @@ begins_more bytes more header rest b = record {
 pub one_header : (bytes others : List ℕ) (a b : Header) (rest more : List ℕ) → bytes ≡ others → BeginsWith bytes a rest → BeginsWith others b more → SameParts a b rest more
 one_header bytes others a b rest more e x y = same_parts a b rest more x.fits x.small y.fits y.small (sym x.spelled ∙ (e ∙ y.spelled))
 
-header_size : (header : Header) → length (header_bytes header) ≡ 19
+pub header_size : (header : Header) → length (header_bytes header) ≡ 19
 unfolding header_bytes low_first
 header_size header = refl
 
@@ -260,25 +260,25 @@ faulty_here : (place at : ℕ) (a b : EventFault) → place ≡ at → a ≡ b �
 faulty_here place at a b e f = λ i. Some (e i, EventIsFaulty (f i))
 
 -- the parts of a first event and what follows it
-record BeginsSo (first : Bool) (at checksum : ℕ) (bytes : List ℕ) (placed : PlacedEvent) (events : List PlacedEvent) (fault : Option (ℕ × FileFault)) : Type 0 where
-  piece : List ℕ
-  rest : List ℕ
-  cut : bytes ≡ piece ++ rest
-  whole : IsWhole first checksum piece placed.event
-  starts : placed.at ≡ at
-  ends : placed.end ≡ at + length piece
-  setting : placed.checksum ≡ setting_behind checksum placed.event.body
-  behind : AreEvents false placed.end placed.checksum rest events fault
+pub record BeginsSo (first : Bool) (at checksum : ℕ) (bytes : List ℕ) (placed : PlacedEvent) (events : List PlacedEvent) (fault : Option (ℕ × FileFault)) : Type 0 where
+  pub piece : List ℕ
+  pub rest : List ℕ
+  pub cut : bytes ≡ piece ++ rest
+  pub whole : IsWhole first checksum piece placed.event
+  pub starts : placed.at ≡ at
+  pub ends : placed.end ≡ at + length piece
+  pub setting : placed.checksum ≡ setting_behind checksum placed.event.body
+  pub behind : AreEvents false placed.end placed.checksum rest events fault
 
-begins_so : (first : Bool) (at checksum : ℕ) (bytes : List ℕ) (placed : PlacedEvent) (events : List PlacedEvent) (fault : Option (ℕ × FileFault)) → AreEvents first at checksum bytes (placed ∷ events) fault → BeginsSo first at checksum bytes placed events fault
+pub begins_so : (first : Bool) (at checksum : ℕ) (bytes : List ℕ) (placed : PlacedEvent) (events : List PlacedEvent) (fault : Option (ℕ × FileFault)) → AreEvents first at checksum bytes (placed ∷ events) fault → BeginsSo first at checksum bytes placed events fault
 begins_so first at checksum bytes placed events fault a = record { piece = a.0; rest = a.1; cut = a.2; whole = a.3; starts = a.4; ends = a.5; setting = a.6; behind = a.7 }
 
 -- the same event in the same bytes, shorter and longer, and what follows it in both
-record SameFirst (placed other : PlacedEvent) (bytes more rest others : List ℕ) : Type 0 where
-  one_placed : placed ≡ other
-  one_behind : others ≡ rest ++ more
+pub record SameFirst (placed other : PlacedEvent) (bytes more rest others : List ℕ) : Type 0 where
+  pub one_placed : placed ≡ other
+  pub one_behind : others ≡ rest ++ more
 
-same_first : (first : Bool) (at checksum : ℕ) (bytes more : List ℕ) (placed other : PlacedEvent) (events longer : List PlacedEvent) (fault later : Option (ℕ × FileFault))
+pub same_first : (first : Bool) (at checksum : ℕ) (bytes more : List ℕ) (placed other : PlacedEvent) (events longer : List PlacedEvent) (fault later : Option (ℕ × FileFault))
     (a : BeginsSo first at checksum bytes placed events fault) (b : BeginsSo first at checksum (bytes ++ more) other longer later) → SameFirst placed other bytes more a.rest b.rest
 same_first first at checksum bytes more placed other events longer fault later a b =
     let cut : a.piece ++ (a.rest ++ more) ≡ b.piece ++ b.rest = sym (assoc a.piece a.rest more) ∙ (ap (λ v. v ++ more) (sym a.cut) ∙ b.cut) in
@@ -323,20 +323,20 @@ grown first at checksum bytes more (placed ∷ events) (other ∷ longer) fault 
     lengthens_by placed other events longer fault later same.one_placed (grown false placed.end placed.checksum s.rest more events longer fault later s.behind here)
 
 -- four bytes that are there stay the first four
-front_stays : (bytes more : List ℕ) → 4 ≤ length bytes → take 4 (bytes ++ more) ≡ take 4 bytes
+pub front_stays : (bytes more : List ℕ) → 4 ≤ length bytes → take 4 (bytes ++ more) ≡ take 4 bytes
 front_stays [] more h = absurd (omega arith)
 front_stays (a ∷ []) more h = absurd (omega arith)
 front_stays (a ∷ b ∷ []) more h = absurd (omega arith)
 front_stays (a ∷ b ∷ c ∷ []) more h = absurd (omega arith)
 front_stays (a ∷ b ∷ c ∷ d ∷ bytes) more h = refl
 
-more_length : (bytes more : List ℕ) → length bytes ≤ length (bytes ++ more)
+pub more_length : (bytes more : List ℕ) → length bytes ≤ length (bytes ++ more)
 more_length bytes more = let size : length (bytes ++ more) ≡ length bytes + length more = length-append bytes more in omega arith
 
-begins_with_magic : (bytes more rest : List ℕ) → bytes ++ more ≡ magic ++ rest → 4 ≤ length bytes → take 4 bytes ≡ magic
+pub begins_with_magic : (bytes more rest : List ℕ) → bytes ++ more ≡ magic ++ rest → 4 ≤ length bytes → take 4 bytes ≡ magic
 begins_with_magic bytes more rest e h = sym (front_stays bytes more h) ∙ ap (take 4) e
 
-magic_length : (bytes rest : List ℕ) → bytes ≡ magic ++ rest → 4 ≤ length bytes
+pub magic_length : (bytes rest : List ℕ) → bytes ≡ magic ++ rest → 4 ≤ length bytes
 magic_length bytes rest e = let size : length bytes ≡ length magic + length rest = ap length e ∙ length-append magic rest in omega arith
 
 file_grown : (bytes more : List ℕ) (events longer : List PlacedEvent) (fault later : Option (ℕ × FileFault)) →
@@ -372,7 +372,7 @@ none_new events others (n ∷ new) old e f =
     let two : length events ≡ length others + length old = ap length f ∙ length-append others old in
     absurd (omega arith)
 
-some_fault : (place : ℕ × FileFault) → ◌≡◌ {A = Option (ℕ × FileFault)} (Some place) None → ⊥
+pub some_fault : (place : ℕ × FileFault) → ◌≡◌ {A = Option (ℕ × FileFault)} (Some place) None → ⊥
 some_fault place e = cc
 
 one_end : (events others : List PlacedEvent) (fault other : Option (ℕ × FileFault)) → Lengthens events others fault other → Lengthens others events other fault → fault ≡ other

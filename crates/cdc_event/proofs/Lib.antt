@@ -14,3 +14,5 @@ pub mod Whole
 pub mod Faults
 pub mod Correspondence
 pub mod FileReading
+pub mod FilePieces
+pub mod FileExists

@@ -1,5 +1,5 @@
 -- The events of a log file, one behind another, and what stands behind the last of them.
-use Rattle.std.specs.Prelude.{◌≡◌, ◌≢◌, ◌<◌, ◌≤◌, ◌⊎◌, ℕ, zero, suc, ◌+◌, ◌^◌, ◌==◌, ◌&&◌, not, Bool, true, false, List, [], ◌∷◌, ◌++◌, length, take, Option, Some, None}
+use Rattle.std.specs.Prelude.{◌≡◌, ◌≢◌, ◌<◌, ◌≤◌, ◌⊎◌, ℕ, zero, suc, ◌+◌, ◌^◌, ◌==◌, ◌&&◌, not, Bool, true, false, List, [], ◌∷◌, ◌++◌, length, take, slice_index, Option, Some, None}
 use Rattle.cdc_event.specs.declared.header.Header.{Header}
 use Rattle.cdc_event.specs.declared.body.Body.{Body}
 use Rattle.cdc_event.specs.declared.body.Body.TheVariants.{Format, Query, Rotate, RowsQuery, TableMap, Rows, XaPrepare, Timestamp, Skipped}
@@ -107,6 +107,12 @@ OneReading =
     (at checksum : ℕ) (bytes : List ℕ) (events others : List PlacedEvent) (fault other : Option (ℕ × FileFault))
     → AreEventsFrom at checksum bytes events fault → AreEventsFrom at checksum bytes others other
     → (events ≡ others) × (fault ≡ other)
+
+-- law: all bytes are read
+abbrev pub EachIsRead : Type 0
+EachIsRead =
+    (at checksum : ℕ) (bytes : List ℕ) → ((i : ℕ) → slice_index bytes i < 256)
+    → (events : List PlacedEvent) × (fault : Option (ℕ × FileFault)) × AreEventsFrom at checksum bytes events fault
 
 -- the events of more bytes begin with those of fewer, and a fault stays
 pub record Lengthens (events more : List PlacedEvent) (fault later : Option (ℕ × FileFault)) : Type 0 where

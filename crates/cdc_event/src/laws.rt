@@ -1,6 +1,6 @@
 //! Laws of the event encoding and of a file's events. Each function does nothing; its clause is the law.
 
-ghost use Rattle.cdc_event.specs.File.{OneReading, GrownFileContinues, RestIsRead};
+ghost use Rattle.cdc_event.specs.File.{EachIsRead, OneReading, GrownFileContinues, RestIsRead};
 ghost use Rattle.cdc_event.specs.Laws.{WrittenIsRead, OneEvent, OneByteList, NoFront, OneFault, FormatByFields};
 
 /// What was written is read again, where nothing ends with a checksum, but for a format event whose
@@ -24,6 +24,12 @@ pub fn no_event_begins_another()
 pub fn faults_are_told_apart()
     ensures one_fault { OneFault }
     ensures format { FormatByFields }
+{}
+
+/// All bytes are events one behind another and then less than an event, or a fault, from a file's start or an event's
+/// end on.
+pub fn each_file_is_read()
+    ensures { EachIsRead }
 {}
 
 /// The bytes of a file, or of a file from an event's end on, have one list of events and one fault at most.

@@ -1,0 +1,4 @@
+pub mod Seen
+pub mod Holding
+pub mod Answering
+pub mod Pieces

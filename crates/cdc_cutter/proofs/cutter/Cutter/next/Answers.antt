@@ -1,0 +1,7 @@
+use Rattle.std.proofs.Common.{refl}
+use Rattle.cdc_cutter.proofs.Answering.{answered}
+use Rattle.cdc_cutter.proofs.Pieces.{if_ok}
+use Rattle.cdc_cutter.proofs.cutter.Cutter.next.Goals as goal
+
+pub returns-clause-answer : goal.returns-clause-answer
+returns-clause-answer c = if_ok c.step.result c.step.ensures.cut (λ cut t. answered c.args.self.now.stage cut c.args.self.now c.step.new.self refl t)
