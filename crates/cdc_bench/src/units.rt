@@ -1,9 +1,8 @@
 //! Units made one after another.
 
-ghost use Rattle.std.specs.Prelude.{◌≤◌, ◌<◌, ◌^◌, IsTrue, IfOk};
+ghost use Rattle.std.specs.Prelude.{◌≤◌, ◌^◌, IfOk};
 ghost use Rattle.std.specs.List.{AllByRecursion};
 ghost use Rattle.cdc_model.specs.Kept.{IsRow, IsKeptKey};
-ghost use Rattle.cdc_model.specs.Layout.{HasRoom};
 
 use cdc_base::{Key, Memory};
 use cdc_event::HEADER_LENGTH;
@@ -11,7 +10,8 @@ use cdc_model::{Layout, RowList, Txn};
 use cdc_rename::Names;
 use cdc_writer::{PrintError, unit};
 use print_tests::build::{
-    add_branch, add_row, add_shared, map_of, no_branches, no_rows, shared, transaction, value_body,
+    add_branch, add_row, add_shared, has_room, map_of, no_branches, no_rows, shared, transaction,
+    value_body,
 };
 use std::alloc::Global;
 
@@ -20,11 +20,6 @@ const ROWS: u32 = 10;
 
 /// The length from which on a file is closed.
 const ROTATION: u64 = 1 << 30;
-
-/// The first file number and the first length behind which nothing is appended.
-const FILE_END: u64 = 1 << 63;
-
-const LENGTH_END: u64 = 1 << 30;
 
 // A branch's rows: a table map, and row events of `size` bytes that share one body.
 fn branch_rows(alloc: Global, size: u32) -> Result<RowList, Memory>
@@ -61,13 +56,6 @@ pub fn row_transaction(alloc: Global, size: u32) -> Result<Option<Txn>, Memory>
     }
 }
 
-// Whether there is room for a transaction.
-fn has_room(layout: &Layout) -> bool
-    ensures { IsTrue result → HasRoom layout.now }
-{
-    layout.file < FILE_END && (layout.closed || layout.length < LENGTH_END)
-}
-
 /// Makes `count` units of a transaction, each behind the one before, and answers how many bytes they had; none where
 /// there is no room for one, or where it is too large.
 pub fn make_units(alloc: Global, txn: &Txn, count: u64) -> Result<Option<u64>, Memory> {
@@ -79,7 +67,7 @@ pub fn make_units(alloc: Global, txn: &Txn, count: u64) -> Result<Option<u64>, M
     };
     let mut bytes = 0_u64;
     for _ in 0..count {
-        if !has_room(&layout) {
+        if !has_room(&layout, ROTATION) {
             return Ok(None);
         }
         match unit(alloc, txn, &names, &layout, ROTATION) {
