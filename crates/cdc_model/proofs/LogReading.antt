@@ -1,9 +1,11 @@
 -- The entries of a file and of a log are one, and a log that goes on keeps them, by the laws of a file's events.
-use Rattle.std.proofs.Common.{◌≡◌, ◌≢◌, inl, inr, ℕ, ◌+◌, List, [], ◌∷◌, ◌++◌, append_assoc, append-nil, map, Option, Some, None, ap, sym, subst, refl, ◌∙◌}
+use Rattle.std.specs.Prelude.{slice_index}
+use Rattle.std.specs.List.{AllByRecursion}
+use Rattle.std.proofs.Common.{◌≡◌, ◌≢◌, ◌<◌, inl, inr, ℕ, ◌+◌, List, [], ◌∷◌, ◌++◌, append_assoc, append-nil, map, Option, Some, None, ap, sym, subst, refl, ◌∙◌}
 use Rattle.std.proofs.lemmas.List.{map-append}
 use Rattle.cdc_base.specs.declared.place.Place.{Place}
 use Rattle.cdc_event.specs.declared.fault.FileFault.{FileFault}
-use Rattle.cdc_event.specs.File.{PlacedEvent, GrownFileContinues}
+use Rattle.cdc_event.specs.File.{PlacedEvent, EachIsRead, GrownFileContinues}
 use Rattle.cdc_event.specs.File.{OneReading as OneFileReading}
 use Rattle.cdc_model.specs.declared.fault.NodeFault.{NodeFault}
 use Rattle.cdc_model.specs.declared.fault.NodeFault.TheVariants.{Group}
@@ -11,10 +13,11 @@ use Rattle.cdc_model.specs.Records.{LogEntry}
 use Rattle.cdc_model.specs.Log.{IsLogPrefix}
 use Rattle.cdc_model.specs.Sign.{SignedEvent, signed}
 use Rattle.cdc_model.specs.Group.{Out}
-use Rattle.cdc_model.specs.Entries.{file_fault, AreEntriesOfEvents, AreFileEntries, AreEntriesFrom, OneEntryList, Lengthens, ContinuedLogKeepsEntries}
+use Rattle.cdc_model.specs.Entries.{file_fault, AreEntriesOfEvents, AreFileEntries, AreEntriesFrom, EachLogHasEntries, OneEntryList, Lengthens, ContinuedLogKeepsEntries}
 use Rattle.cdc_model.proofs.GroupMachine.{Ending, Reached, Misplaced, outcome}
 use Rattle.cdc_model.proofs.GroupRuns.{joined, outcome_append}
 use Rattle.cdc_model.proofs.GroupReading.{reads_to_run, run_ceases}
+use Rattle.cdc_model.proofs.GroupOutcome.{events_have_entries}
 
 -- ---- the entries of events are what a run gives
 
@@ -222,3 +225,32 @@ module _ (one : OneFileReading) (grown : GrownFileContinues) where
 
   pub continued_log_keeps_entries : ContinuedLogKeepsEntries
   continued_log_keeps_entries files others entries longer fault later = entries_grow 1 files others entries longer fault later
+
+-- ---- each log has entries
+
+-- entries of files from this number on
+abbrev SomeEntries : ℕ → List (List ℕ) → Type 0
+SomeEntries file files = (entries : List LogEntry) × (fault : Option (Place × NodeFault)) × AreEntriesFrom file files entries fault
+
+-- a file's entries, and those of the files behind it where it has no fault
+with_file : (file : ℕ) (bytes : List ℕ) (files : List (List ℕ)) (entries : List LogEntry) (fault : Option (Place × NodeFault))
+    → AreFileEntries file bytes entries fault → SomeEntries (file + 1) files → SomeEntries file (bytes ∷ files)
+with_file file bytes files entries (Some fault) found rest = (entries, Some fault, inl ((λ e. cc), found))
+with_file file bytes files entries None found (later, fault, read) = (entries ++ later, fault, inr (entries, later, refl, found, read))
+
+module _ (each : EachIsRead) where
+  file_has_entries : (file : ℕ) (bytes : List ℕ) → ((i : ℕ) → slice_index bytes i < 256)
+      → (entries : List LogEntry) × (fault : Option (Place × NodeFault)) × AreFileEntries file bytes entries fault
+  file_has_entries file bytes are =
+      let found = each 0 0 bytes are in
+      let entries = events_have_entries file (map signed found.0) found.1 in
+      (entries.0, entries.1, (found.0, found.1, found.2, entries.2))
+
+  files_have_entries : (file : ℕ) (files : List (List ℕ)) → AllByRecursion (λ (bytes : List ℕ). (i : ℕ) → slice_index bytes i < 256) files → SomeEntries file files
+  files_have_entries file [] are = ([], None, (refl, refl))
+  files_have_entries file (bytes ∷ files) are =
+      let own = file_has_entries file bytes are.0 in
+      with_file file bytes files own.0 own.1 own.2 (files_have_entries (file + 1) files are.1)
+
+  pub each_log_has_entries : EachLogHasEntries
+  each_log_has_entries files are = files_have_entries 1 files are

@@ -1,5 +1,6 @@
 -- The entries of a node's log, and the fault of a file's bytes or of its grammar that ends them.
-use Rattle.std.specs.Prelude.{◌≡◌, ◌≢◌, ◌⊎◌, ◌+◌, ℕ, List, [], ◌∷◌, ◌++◌, map, Option, Some, None}
+use Rattle.std.specs.Prelude.{◌≡◌, ◌≢◌, ◌⊎◌, ◌+◌, ℕ, List, [], ◌∷◌, ◌++◌, ◌<◌, slice_index, map, Option, Some, None}
+use Rattle.std.specs.List.{AllByRecursion}
 use Rattle.std.specs.Option.{option_map}
 use Rattle.cdc_base.specs.declared.place.Place.{Place}
 use Rattle.cdc_event.specs.declared.fault.FileFault.{FileFault}
@@ -91,6 +92,11 @@ MisfitsAreTold = (file : ℕ) (events : List SignedEvent) (entries : List LogEnt
 abbrev pub EventsHaveEntries : Type 0
 EventsHaveEntries = (file : ℕ) (events : List SignedEvent) (ended : Option (ℕ × FileFault))
     → (entries : List LogEntry) × (fault : Option (Place × NodeFault)) × AreEntriesOfEvents file events ended entries fault
+
+-- law: each log has entries, whatever its bytes are
+abbrev pub EachLogHasEntries : Type 0
+EachLogHasEntries = (files : List (List ℕ)) → AllByRecursion (λ (bytes : List ℕ). (i : ℕ) → slice_index bytes i < 256) files
+    → (entries : List LogEntry) × (fault : Option (Place × NodeFault)) × AreLogEntries files entries fault
 
 -- law: a log has one list of entries, and one fault or none
 abbrev pub OneEntryList : Type 0

@@ -1,9 +1,9 @@
 //! The laws of the grammar of a node's log: its events are read in one way, where they cease to fit is told by a table,
 //! and a log that goes on keeps its entries. Each function ensures its law, so that the check proves it.
 
-ghost use Rattle.cdc_model.specs.Entries.{OneReading, OneStage, FittingIsRead, FrontsFit, MisfitsAreTold, EventsHaveEntries, OneEntryList, ContinuedLogKeepsEntries};
+ghost use Rattle.cdc_model.specs.Entries.{OneReading, OneStage, FittingIsRead, FrontsFit, MisfitsAreTold, EventsHaveEntries, EachLogHasEntries, OneEntryList, ContinuedLogKeepsEntries};
 
-use cdc_event::{file_is_read_in_one_way, grown_file_continues};
+use cdc_event::{each_file_is_read, file_is_read_in_one_way, grown_file_continues};
 
 /// A law: events that are whole items have one list of entries.
 pub fn entries_are_read_in_one_way()
@@ -34,6 +34,13 @@ pub fn misfits_are_told()
 pub fn events_have_entries()
     ensures { EventsHaveEntries }
 {}
+
+/// A law: each log has entries, whatever its bytes are.
+pub fn each_log_has_entries()
+    ensures { EachLogHasEntries }
+{
+    each_file_is_read();
+}
 
 /// A law: a log has one list of entries, and one fault or none.
 pub fn log_has_one_entry_list()

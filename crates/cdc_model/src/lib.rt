@@ -28,9 +28,9 @@ pub use committed::add_node_branches;
 pub use entry::{Entry, EntryKind, EntryList};
 pub use fault::{GroupFault, NodeFault, SortFault};
 pub use grammar_laws::{
-    continued_log_keeps_entries, entries_are_read_in_one_way, events_have_entries,
-    fitting_events_are_read, fronts_fit, log_has_one_entry_list, misfits_are_told,
-    unfinished_item_is_one,
+    continued_log_keeps_entries, each_log_has_entries, entries_are_read_in_one_way,
+    events_have_entries, fitting_events_are_read, fronts_fit, log_has_one_entry_list,
+    misfits_are_told, unfinished_item_is_one,
 };
 pub use laws::{
     files_are_whole, grown_log_continues, log_prefix_is_an_order, mark_is_greatest, mark_is_least,
