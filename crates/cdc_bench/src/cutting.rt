@@ -1,5 +1,6 @@
 //! Events cut from pieces.
 
+use crate::tally::Tally;
 use cdc_base::{Blob, Memory, Place};
 use cdc_cutter::{Cut, Cutter};
 use std::alloc::Global;
@@ -10,13 +11,6 @@ const PIECE: usize = 65_536;
 /// No log is as long.
 const FAR: u64 = 1 << 62;
 
-/// How many events were cut, and how many bytes they had.
-#[derive(Clone, Copy, Debug)]
-pub struct Tally {
-    pub events: u64,
-    pub bytes: u64,
-}
-
 /// Feeds a piece and takes the events that are whole then; false where something else stands there.
 fn cut_piece(cutter: &mut Cutter, piece: &[u8], tally: &mut Tally) -> Result<bool, Memory> {
     if cutter.fed_to().at >= FAR || piece.len() > PIECE {
@@ -26,7 +20,7 @@ fn cut_piece(cutter: &mut Cutter, piece: &[u8], tally: &mut Tally) -> Result<boo
     for _ in 0..PIECE {
         match cutter.next()? {
             Cut::Event { at, end, .. } => {
-                tally.events = tally.events.saturating_add(1);
+                tally.count = tally.count.saturating_add(1);
                 tally.bytes = tally.bytes.saturating_add(end.at.saturating_sub(at.at));
             }
             Cut::Need => return Ok(true),
@@ -40,7 +34,7 @@ fn cut_piece(cutter: &mut Cutter, piece: &[u8], tally: &mut Tally) -> Result<boo
 pub fn cut_events(alloc: Global, log: &Blob, count: u64) -> Result<Option<Tally>, Memory> {
     let mut cutter = Cutter::resumed(alloc, Place { file: 1, at: 4 }, 0)?;
     let mut tally = Tally {
-        events: 0,
+        count: 0,
         bytes: 0,
     };
     for _ in 0..count {
@@ -49,7 +43,7 @@ pub fn cut_events(alloc: Global, log: &Blob, count: u64) -> Result<Option<Tally>
                 return Ok(None);
             }
         }
-        if tally.events >= count {
+        if tally.count >= count {
             return Ok(Some(tally));
         }
     }

@@ -7,22 +7,24 @@ use cdc_event::{HEADER_LENGTH, LENGTH_MAX};
 use std::env;
 use std::rt::Env;
 
-/// How events are read.
+/// What is timed.
 #[derive(Clone, Copy, Debug)]
-pub enum How {
-    /// Each at its place in memory.
-    Read,
-    /// By a cutter, from pieces.
-    Cut,
+pub enum Task {
+    /// The reading of row events, each at its place in memory.
+    ReadRows,
+    /// The cutting of row events from pieces.
+    CutRows,
+    /// The making of units.
+    MakeUnits,
 }
 
-/// What is timed: the reading of row events.
+/// A task, and how much of it.
 #[derive(Clone, Copy, Debug)]
 pub struct Work {
-    pub how: How,
-    /// The bytes of each event, header included.
+    pub task: Task,
+    /// The bytes of each row event, header included.
     pub size: u32,
-    /// How many events are read.
+    /// How many events are read, or units made.
     pub count: u64,
 }
 
@@ -48,26 +50,27 @@ fn size_of(word: &str) -> Option<u32>
     }
 }
 
-/// What the first word says.
-fn how_of(word: &str) -> Option<How> {
+/// The task of a word.
+fn task_of(word: &str) -> Option<Task> {
     match word {
-        "read" => Some(How::Read),
-        "cut" => Some(How::Cut),
+        "read" => Some(Task::ReadRows),
+        "cut" => Some(Task::CutRows),
+        "unit" => Some(Task::MakeUnits),
         _ => None,
     }
 }
 
-/// What the words ask for: `read` or `cut`, `row`, an event's size and how many of them. None for any others.
+/// What the words ask for: `read`, `cut` or `unit`, `row`, a row event's size and how many. None for any others.
 pub fn work_of(words: &[Text]) -> Option<Work>
     ensures least { IfSome result (λ work. 19 ≤ work.size) }
     ensures most { IfSome result (λ work. work.size ≤ 2 ^ 27) }
 {
     match words {
-        [how, which, size, count] if which.as_str() == "row" => {
-            let how = how_of(how.as_str())?;
+        [task, which, size, count] if which.as_str() == "row" => {
+            let task = task_of(task.as_str())?;
             let size = size_of(size.as_str())?;
             let count = count.as_str().parse::<u64>().ok()?;
-            Some(Work { how, size, count })
+            Some(Work { task, size, count })
         }
         _ => None,
     }

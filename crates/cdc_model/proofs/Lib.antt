@@ -1,6 +1,8 @@
 mod KeptKeys
 mod Removal
 mod Worked
+mod WorkedEntries
+mod WorkedLogs
 mod Members
 mod OpenBranches
 mod Marks
@@ -13,3 +15,12 @@ mod OrderCut
 mod PrintLength
 mod ClosedFiles
 mod Files
+mod SameXid
+mod GroupMachine
+mod GroupRuns
+mod GroupItems
+mod GroupSteps
+mod GroupReading
+mod GroupOutcome
+mod LogReading
+mod Units

@@ -11,7 +11,7 @@ use Rattle.cdc_model.specs.Records.{OpenBranch, Start}
 use Rattle.cdc_model.specs.Start.{same_xid, xid_order, find_open, without, enter, opened_by, left}
 use Rattle.cdc_model.specs.Watermark.{verdict, verdict_or, OpenAsNewestSays}
 
-same_xid_laws : IsEquivalence same_xid
+pub same_xid_laws : IsEquivalence same_xid
 same_xid_laws = search (comparing, rules) depth 9
 
 -- ---- one element more, some elements fewer

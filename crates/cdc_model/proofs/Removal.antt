@@ -1,5 +1,5 @@
 -- What is left where the first element that passes a test is taken out.
-use Rattle.std.proofs.Common.{◌≡◌, ℕ, ◌+◌, ◌<◌, Bool, true, false, not, cond, List, [], ◌∷◌, length, filter, Option, Some, None, suc, refl, sym, ap, ◌∙◌, subst, arith, add-zero}
+use Rattle.std.proofs.Common.{◌≡◌, ℕ, ◌+◌, ◌<◌, Bool, true, false, not, List, [], ◌∷◌, length, filter, Some, None, suc, refl, sym, ap, ◌∙◌, arith}
 use Rattle.std.specs.List.{position_from, remove}
 use Rattle.std.proofs.lemmas.List.Edits.{length-remove}
 use Rattle.cdc_base.specs.declared.xid.Xid.{Xid}

@@ -1,5 +1,5 @@
--- The facts that entries, branches and transactions keep.
-use Rattle.std.specs.Prelude.{◌+◌, ◌^◌, ◌<◌, ◌≤◌, IsTrue, length}
+-- The facts that entries, branches, transactions and units keep.
+use Rattle.std.specs.Prelude.{◌≡◌, ◌+◌, ◌^◌, ◌<◌, ◌≤◌, IsTrue, length}
 use Rattle.std.specs.List.{AllByRecursion}
 use Rattle.cdc_base.specs.declared.key.Key.{Key}
 use Rattle.cdc_base.specs.declared.key.Key.TheVariants.{Shared, Plain as PlainKey}
@@ -11,7 +11,9 @@ use Rattle.cdc_model.specs.declared.branch.Branch.TheInside.{Inside as InsideBra
 use Rattle.cdc_model.specs.declared.transaction.Txn.TheInside.{Inside as InsideTransaction}
 use Rattle.cdc_model.specs.declared.start.Opened.TheInside.{Inside as InsideOpened}
 use Rattle.cdc_model.specs.declared.start.StartingPoint.TheInside.{Inside as InsideStart}
-use Rattle.cdc_model.specs.Records.{Row, LogEntry, CommittedBranch, Transaction, OpenBranch, Start}
+use Rattle.cdc_model.specs.declared.unit.Unit.TheInside.{Inside as InsideUnit}
+use Rattle.cdc_model.specs.Records.{Row, LogEntry, CommittedBranch, Transaction, OpenBranch, Start, OutputUnit}
+use Rattle.cdc_model.specs.Layout.{begins_file, next_file, next_place}
 
 -- a row is an event of its type of at most 2^27 bytes
 pub record IsRow (row : Row) : Type 0 where
@@ -66,3 +68,13 @@ start_seen s = record { entry = s.entry; mark = s.mark; opened = s.opened }
 
 abbrev pub IsKeptStart : InsideStart → Type 0
 IsKeptStart s = s.mark < 2 ^ 63
+
+abbrev pub unit_seen : InsideUnit → OutputUnit
+unit_seen u = record { number = u.number; key = u.key; before = u.before; after = u.after; bytes = u.bytes }
+
+-- a unit's bytes begin where the output stood and end where it then stands; a new file's begin with a head of 123 bytes
+pub record IsKeptUnit (u : InsideUnit) : Type 0 where
+  pub key : IsKeptKey u.key
+  pub file : u.after.file ≡ next_file u.before
+  pub end : u.after.length ≡ next_place u.before + length u.bytes
+  pub head : IsTrue (begins_file u.before) → 123 ≤ length u.bytes

@@ -1,6 +1,11 @@
 pub mod Records
+pub mod Layout
 pub mod Kept
 pub mod Log
+pub mod Sign
+pub mod Group
+pub mod Misfit
+pub mod Entries
 pub mod Start
 pub mod Watermark
 pub mod Soundness
@@ -8,3 +13,4 @@ pub mod Branch
 pub mod Print
 pub mod Transaction
 pub mod Output
+pub mod Unit

@@ -5,6 +5,7 @@ use Rattle.cdc_base.specs.declared.key.Key.{Key}
 use Rattle.cdc_base.specs.declared.xid.Xid.{Xid}
 use Rattle.cdc_event.specs.declared.body.Body.{Body}
 use Rattle.cdc_model.specs.declared.entry.EntryKind.{EntryKind}
+use Rattle.cdc_model.specs.declared.layout.Layout.{Layout}
 
 -- a row: an event's type and body
 abbrev pub Row : Type 0
@@ -43,3 +44,11 @@ pub record Start : Type 0 where
   pub entry : ℕ
   pub mark : ℕ
   pub opened : List OpenBranch
+
+-- a unit: the run of bytes that one transaction appends to the output, and where the output stands before it and behind it
+pub record OutputUnit : Type 0 where
+  pub number : ℕ
+  pub key : Key
+  pub before : Layout
+  pub after : Layout
+  pub bytes : List ℕ

@@ -6,6 +6,7 @@ ghost use Rattle.cdc_model.specs.Soundness.{SoundIsLongest};
 ghost use Rattle.cdc_model.specs.Log.{LogPrefixIsAnOrder, GrownLogContinues};
 ghost use Rattle.cdc_model.specs.Transaction.{OrderIsExact, SettledIsExact, SettledFit};
 ghost use Rattle.cdc_model.specs.Output.{FilesAreWhole, OneMoreIsOneStep};
+ghost use Rattle.cdc_model.specs.Unit.{UnitsAreSteps, UnitsMakeFiles};
 
 /// A law: the open branches are exactly those whose newest Prepare, Commit or Rollback is a Prepare.
 pub fn open_as_newest_says()
@@ -72,4 +73,15 @@ pub fn files_are_whole()
 /// A law: the output of some transactions and one more is one step behind theirs.
 pub fn one_more_is_one_step()
     ensures { OneMoreIsOneStep }
+{}
+
+/// A law: a transaction's unit is one step of each output that stands where the unit begins: its bytes are
+/// what the step appends, and behind it the output stands where the unit says.
+pub fn units_are_steps()
+    ensures { UnitsAreSteps }
+{}
+
+/// A law: the output files of some transactions and one more are theirs with the unit's bytes appended.
+pub fn units_make_files()
+    ensures { UnitsMakeFiles }
 {}

@@ -10,6 +10,7 @@ mod branch;
 mod committed;
 mod entry;
 mod fault;
+mod grammar_laws;
 mod laws;
 mod layout;
 mod open_branches;
@@ -19,16 +20,22 @@ mod settled;
 mod soundness;
 mod start;
 mod transaction;
+mod unit;
 mod watermark;
 
 pub use branch::{Branch, BranchList};
 pub use committed::add_node_branches;
 pub use entry::{Entry, EntryKind, EntryList};
-pub use fault::SortFault;
+pub use fault::{GroupFault, NodeFault, SortFault};
+pub use grammar_laws::{
+    continued_log_keeps_entries, entries_are_read_in_one_way, events_have_entries,
+    fitting_events_are_read, fronts_fit, log_has_one_entry_list, misfits_are_told,
+    unfinished_item_is_one,
+};
 pub use laws::{
     files_are_whole, grown_log_continues, log_prefix_is_an_order, mark_is_greatest, mark_is_least,
     node_mark_is_least, numbers_count, one_more_is_one_step, open_as_newest_says, order_is_exact,
-    settled_fit, settled_is_exact, sound_is_longest,
+    settled_fit, settled_is_exact, sound_is_longest, units_are_steps, units_make_files,
 };
 pub use layout::Layout;
 pub use order::{all_branches, first_key, ordered_transactions};
@@ -37,4 +44,5 @@ pub use settled::{KeyList, is_settled, settled_keys};
 pub use soundness::{entry_fault, reached, sound_count};
 pub use start::{NodeLog, OpenList, Opened, StartingPoint};
 pub use transaction::{Txn, TxnList};
+pub use unit::Unit;
 pub use watermark::{low_water_mark, node_low_water_mark};

@@ -9,3 +9,4 @@ mod Cases
 mod Counted
 mod HeadBytes
 mod Short
+mod Runs

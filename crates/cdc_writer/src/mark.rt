@@ -4,6 +4,7 @@ ghost use Rattle.std.specs.Prelude.{◌≡◌, ◌+◌, ◌<◌, ◌≤◌, ◌^
 ghost use Rattle.hex.specs.Hex.{encode_lower};
 ghost use Rattle.cdc_model.specs.Print.{digits, mark_text, mark_event, row_length, printed_event};
 
+use crate::digits::push_digits;
 use crate::event::put_event;
 use cdc_base::{Blob, Buffer, Gtrid, Key, Memory};
 use cdc_event::Body;
@@ -22,29 +23,6 @@ const ENTRY_DIGITS: usize = 20;
 
 /// The most bytes of a global id's text.
 const HEX_MAX: usize = 128;
-
-// The lowest decimal digits of a number, as many as there is room for.
-fn write_digits(out: &mut [u8], number: u64)
-    ensures { out.new ≡ digits (length out.old) number }
-{
-    let mut rest = number;
-    let mut places = out.len();
-    while places > 0 {
-        places -= 1;
-        out[places] = b'0' + (rest % 10) as u8;
-        rest /= 10;
-    }
-}
-
-fn push_digits(places: usize, number: u64, into: &mut Buffer) -> Result<(), Memory>
-    requires { places ≤ ENTRY_DIGITS }
-    ensures { OnOk result (into.new ≡ into.old ++ digits places number) }
-{
-    let mut text = [0; ENTRY_DIGITS];
-    let text = &mut text[..places];
-    write_digits(text, number);
-    into.push(text)
-}
 
 fn push_hex(id: &Gtrid, into: &mut Buffer) -> Result<(), Memory>
     ensures { OnOk result (into.new ≡ into.old ++ encode_lower id.now) }

@@ -1,6 +1,6 @@
 //! A transaction's print, whole or not at all.
 
-ghost use Rattle.std.specs.Prelude.{◌≡◌, ◌+◌, ◌<◌, ◌≤◌, ◌^◌, ◌++◌, ◌↔◌, IfErr, OnOk, OnErr};
+ghost use Rattle.std.specs.Prelude.{◌≡◌, ◌+◌, ◌<◌, ◌≤◌, ◌^◌, ◌++◌, ◌↔◌, IfOk, IfErr, OnOk, OnErr};
 ghost use Rattle.cdc_model.specs.Print.{printed_bytes, printed_length};
 ghost use Rattle.cdc_writer.specs.Refusal.{too_large, HasPrintCause};
 ghost use Rattle.cdc_writer.specs.declared.printing.PrintError.TheVariants.{Memory as NoMemory};
@@ -32,6 +32,21 @@ impl From<Memory> for PrintError {
     }
 }
 
+/// How long a transaction's print is, where it isn't too large.
+pub(crate) fn length_within(txn: &Txn, names: &Names) -> Result<u64, PrintError>
+    ensures ok { IfOk result (λ bytes. (bytes ≡ printed_length names.now txn.now) × (bytes ≤ 2 ^ 28)) }
+    ensures err { IfErr result (λ error. (error ≡ too_large names.now txn.now) × (2 ^ 28 < printed_length names.now txn.now)) }
+{
+    let bytes = print_length(txn, names);
+    if bytes > PRINT_MAX {
+        return Err(PrintError::TooLarge {
+            number: txn.number,
+            bytes,
+        });
+    }
+    Ok(bytes)
+}
+
 /// Appends a transaction's print, which stands at `at` of its file: its events, one behind another, each with
 /// the place behind it as its next position. Where the print isn't too large its end is below 2^32.
 ///
@@ -50,13 +65,7 @@ pub fn print(
     ensures refused { IfErr result (HasPrintCause names.now txn.now) }
     ensures too_large { (result ≡ Err (too_large names.now txn.now)) ↔ (2 ^ 28 < printed_length names.now txn.now) }
 {
-    let bytes = print_length(txn, names);
-    if bytes > PRINT_MAX {
-        return Err(PrintError::TooLarge {
-            number: txn.number,
-            bytes,
-        });
-    }
+    let bytes = length_within(txn, names)?;
     into.reserve(bytes as usize)?;
     let before = into.len();
     match put_transaction(alloc, txn, names, at as u32, into) {

@@ -1,13 +1,14 @@
 //! Rows, branches, transactions and rules of tests.
 
-ghost use Rattle.std.specs.Prelude.{◌≡◌, ◌+◌, ◌≤◌, ◌<◌, ◌^◌, length, IfOk, IfSome};
+ghost use Rattle.std.specs.Prelude.{◌≡◌, ◌+◌, ◌≤◌, ◌<◌, ◌^◌, IsTrue, length, IfOk, IfSome};
 ghost use Rattle.std.specs.List.{AllByRecursion};
 ghost use Rattle.cdc_model.specs.Kept.{IsRow, IsKeptKey};
+ghost use Rattle.cdc_model.specs.Layout.{IsRotation, HasRoom};
 ghost use Rattle.cdc_rename.specs.Names.{IsName, IsRule, IsTableMap};
 
 use cdc_base::{Blob, Buffer, Items, Key, Memory, Rename, Text, gtrid_of};
 use cdc_event::Body;
-use cdc_model::{Branch, BranchList, RowList, Txn};
+use cdc_model::{Branch, BranchList, Layout, RowList, Txn};
 use cdc_rename::Names;
 use cdc_writer::{PrintError, print};
 use std::alloc::Global;
@@ -133,6 +134,17 @@ pub fn printed(
     buffer.push(before)?;
     print(alloc, txn, names, at, &mut buffer)?;
     Ok(buffer)
+}
+
+/// Whether a transaction may go behind a layout, with this rotation size.
+pub fn has_room(layout: &Layout, rotation: u64) -> bool
+    ensures layout { IsTrue result → HasRoom layout.now }
+    ensures rotation { IsTrue result → IsRotation rotation }
+{
+    layout.file < 1 << 63
+        && (layout.closed || layout.length < 1 << 30)
+        && rotation >= 256
+        && rotation <= 1 << 30
 }
 
 /// A rule.

@@ -1,4 +1,4 @@
-//! A print of the greatest size, and one that is a byte too large.
+//! A print of the greatest size, and one that is a byte too large, alone and as a unit.
 
 ghost use Rattle.std.specs.Prelude.{◌≤◌, ◌^◌, IfOk};
 ghost use Rattle.std.specs.List.{AllByRecursion};
@@ -10,9 +10,9 @@ use crate::build::{
 };
 use cdc_base::Memory;
 use cdc_event::Body;
-use cdc_model::{RowList, Txn};
+use cdc_model::{Layout, RowList, Txn};
 use cdc_rename::Names;
-use cdc_writer::{PrintError, print_length};
+use cdc_writer::{PrintError, print_length, unit};
 use std::alloc::Global;
 use std::process::Abort;
 use std::test::Fail;
@@ -102,6 +102,48 @@ fn larger_is_refused(alloc: Global) -> Result<bool, PrintError> {
     }
 }
 
+/// No file yet.
+const NO_FILE: Layout = Layout {
+    file: 0,
+    length: 0,
+    closed: false,
+};
+
+// Whether a print of 2^28 bytes becomes a unit, behind the file's head.
+fn greatest_becomes_a_unit(alloc: Global) -> Result<bool, PrintError> {
+    let Some(txn) = of_large_rows(alloc, 1, LAST_BODY)? else {
+        return Ok(false);
+    };
+    let unit = unit(alloc, &txn, &Names::new(alloc), &NO_FILE, 1 << 30)?;
+    let bytes = unit.bytes.bytes();
+    let after = Layout {
+        file: 1,
+        length: 268435579,
+        closed: false,
+    };
+    Ok(
+        unit.after == after
+            && bytes.len() == 268435579
+            && part(bytes, 123, 132) == FIRST
+            && part(bytes, 268435552, 268435579) == LAST,
+    )
+}
+
+// Whether a print of a byte more becomes no unit, with its number and length.
+fn larger_becomes_none(alloc: Global) -> Result<bool, PrintError> {
+    let Some(txn) = of_large_rows(alloc, 2, LAST_BODY + 1)? else {
+        return Ok(false);
+    };
+    let refused = PrintError::TooLarge {
+        number: 2,
+        bytes: 268435457,
+    };
+    match unit(alloc, &txn, &Names::new(alloc), &NO_FILE, 1 << 30) {
+        Ok(_) => Ok(false),
+        Err(error) => Ok(error == refused),
+    }
+}
+
 #[test]
 fn a_print_of_the_greatest_size_is_printed(rt: HostRuntime) -> Result<(), Fail> {
     assert!(rt; greatest_is_printed(rt.alloc())?);
@@ -111,5 +153,17 @@ fn a_print_of_the_greatest_size_is_printed(rt: HostRuntime) -> Result<(), Fail> 
 #[test]
 fn a_print_of_a_byte_more_is_refused(rt: HostRuntime) -> Result<(), Fail> {
     assert!(rt; larger_is_refused(rt.alloc())?);
+    Ok(())
+}
+
+#[test]
+fn a_unit_of_the_greatest_print_is_made(rt: HostRuntime) -> Result<(), Fail> {
+    assert!(rt; greatest_becomes_a_unit(rt.alloc())?);
+    Ok(())
+}
+
+#[test]
+fn a_unit_of_a_byte_more_is_refused(rt: HostRuntime) -> Result<(), Fail> {
+    assert!(rt; larger_becomes_none(rt.alloc())?);
     Ok(())
 }

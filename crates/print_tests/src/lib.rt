@@ -11,3 +11,9 @@ mod large;
 mod prints;
 #[cfg(test)]
 mod rules;
+#[cfg(test)]
+mod samples;
+#[cfg(test)]
+mod spots;
+#[cfg(test)]
+mod units;

@@ -1,6 +1,4 @@
-use Rattle.std.proofs.Common.{◌≡◌, ◌∙◌, Some, None, sym}
-use Rattle.std.specs.List.{position_from}
-use Rattle.cdc_model.specs.Start.{same_xid}
+use Rattle.std.proofs.Common.{◌∙◌, sym}
 use Rattle.cdc_model.proofs.Removal.{without_at, without_none}
 use Rattle.cdc_model.proofs.open_branches.without.Goals as goal
 

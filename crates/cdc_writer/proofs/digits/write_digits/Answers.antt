@@ -1,6 +1,6 @@
 use Rattle.std.proofs.Common.{◌≡◌, ℕ, sym, ◌∙◌, arith, length-set}
 use Rattle.cdc_writer.proofs.Marks.{digits_step, digits_none}
-use Rattle.cdc_writer.proofs.mark.write_digits.Goals as goal
+use Rattle.cdc_writer.proofs.digits.write_digits.Goals as goal
 
 pub loop-places-preserved : goal.loop-places-preserved
 loop-places-preserved c = record {

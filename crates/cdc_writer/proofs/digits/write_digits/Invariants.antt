@@ -1,6 +1,6 @@
 use Rattle.std.proofs.Common.{◌≡◌, ◌≤◌, ◌++◌, length, drop}
 use Rattle.cdc_model.specs.Print.{digits}
-use Rattle.cdc_writer.proofs.mark.write_digits.Given as goal
+use Rattle.cdc_writer.proofs.digits.write_digits.Given as goal
 
 -- the digits that are left, and those that are written
 abbrev pub invariant-loop-places : goal.invariant-loop-places

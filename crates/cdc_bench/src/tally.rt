@@ -1,0 +1,8 @@
+//! What was done.
+
+/// How many events were read, or units made, and how many bytes they had.
+#[derive(Clone, Copy, Debug)]
+pub struct Tally {
+    pub count: u64,
+    pub bytes: u64,
+}
