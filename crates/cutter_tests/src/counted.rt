@@ -1,0 +1,44 @@
+//! A caller that keeps what a cutter promises over a loop: how many events a file has.
+
+ghost use Rattle.std.specs.Prelude.{◌≡◌, ◌<◌, ◌^◌, ℕ, List, length, Option, IfOk, IfSome};
+ghost use Rattle.cdc_event.specs.File.{PlacedEvent, AreFileEvents};
+ghost use Rattle.cdc_event.specs.declared.fault.FileFault.{FileFault};
+
+use crate::logs::log_of;
+use cdc_base::Memory;
+use cdc_cutter::{Cut, Cutter};
+use std::alloc::Global;
+use std::test::Fail;
+
+/// How many events a file has; none where it has too many to be counted here.
+fn count_events(alloc: Global, file: &[u8]) -> Result<Option<usize>, Memory>
+    requires { length file.now < 2 ^ 54 }
+    ensures { IfOk result (λ counted. IfSome counted (λ count. (events : List PlacedEvent) × (fault : Option (ℕ × FileFault)) × AreFileEvents file.now events fault × (count ≡ length events))) }
+{
+    let mut cutter = Cutter::new(alloc)?;
+    cutter.feed(file)?;
+    for count in 0..file.len() {
+        match cutter.next()? {
+            Cut::Event { .. } => {}
+            Cut::Need | Cut::Fault { .. } => return Ok(Some(count)),
+        }
+    }
+    Ok(None)
+}
+
+#[test]
+fn a_file_has_so_many_events(rt: HostRuntime) -> Result<(), Fail> {
+    for (words, wanted) in [
+        ("M F0", 1),
+        ("M F0 S E R", 4),
+        ("M F1 S+ h2,22", 2),
+        ("M S", 0),
+    ] {
+        let log = log_of(rt.alloc(), words)?;
+        if log.len() > 1_000 {
+            return Err("a log of this length is no test")?;
+        }
+        assert_eq!(&rt; count_events(rt.alloc(), &log)?, Some(wanted), "{words}");
+    }
+    Ok(())
+}
