@@ -1,6 +1,6 @@
 //! Bytes that are shared, not copied.
 
-ghost use Rattle.std.specs.Prelude.{◌≡◌, ◌≤◌, ◌==◌, [], length, drop, slice_range, IfOk};
+ghost use Rattle.std.specs.Prelude.{◌≡◌, ◌≤◌, ◌==◌, [], length, take, drop, slice_range, IfOk};
 
 use crate::memory::Memory;
 use bytes::Bytes;
@@ -67,6 +67,13 @@ impl Blob {
         Ok(Blob {
             bytes: self.bytes.slice(from..to)?,
         })
+    }
+
+    /// Keeps the first `length` bytes, where there are more.
+    pub fn truncate(&mut self, length: usize)
+        ensures { self.new ≡ take length self.old }
+    {
+        self.bytes.truncate(length);
     }
 
     /// Drops the first `by` bytes.

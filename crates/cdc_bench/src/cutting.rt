@@ -33,10 +33,7 @@ fn cut_piece(cutter: &mut Cutter, piece: &[u8], tally: &mut Tally) -> Result<boo
 /// Cuts the events of a log, again and again, until there were `count`; none where something else stands in it.
 pub fn cut_events(alloc: Global, log: &Blob, count: u64) -> Result<Option<Tally>, Memory> {
     let mut cutter = Cutter::resumed(alloc, Place { file: 1, at: 4 }, 0)?;
-    let mut tally = Tally {
-        count: 0,
-        bytes: 0,
-    };
+    let mut tally = Tally { count: 0, bytes: 0 };
     for _ in 0..count {
         for piece in log.bytes().chunks(PIECE) {
             if !cut_piece(&mut cutter, piece, &mut tally)? {

@@ -5,7 +5,7 @@ ghost use Rattle.cdc_event.specs.Length.{HasGoodLength};
 
 use cdc_base::{Blob, Memory};
 use cdc_event::{
-    Body, Event, HEADER_LENGTH, Header, ReadError, check_length, read_body, read_header,
+    Body, Event, HEADER_LENGTH, Header, ReadError, check_length, read_header, read_owned_body,
 };
 
 /// Whether an event may have its length, without a checksum behind it.
@@ -29,7 +29,7 @@ fn event_at(log: &Blob, at: usize) -> Result<Option<Event>, Memory> {
         return Ok(None);
     }
     let body = log.part(at + HEADER_LENGTH, at + length)?;
-    match read_body(&header, &body, 0) {
+    match read_owned_body(&header, body, 0) {
         Ok(event) => Ok(Some(event)),
         Err(ReadError::Fault(_)) => Ok(None),
         Err(ReadError::Memory) => Err(Memory),

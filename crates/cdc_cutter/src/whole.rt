@@ -10,7 +10,7 @@ ghost use Rattle.cdc_event.specs.File.{setting_behind as specs_setting_behind};
 
 use cdc_base::Blob;
 use cdc_event::kind::FORMAT;
-use cdc_event::{Body, Event, EventFault, HEADER_LENGTH, Header, ReadError, read_body};
+use cdc_event::{Body, Event, EventFault, HEADER_LENGTH, Header, ReadError, read_owned_body};
 
 /// The setting behind an event: a format event names it, and every other leaves it.
 pub fn setting_behind(before: u8, body: &Body) -> u8
@@ -43,5 +43,5 @@ pub fn read_whole(
         return Err(ReadError::Fault(EventFault::BadFormat));
     }
     let body = front.part(HEADER_LENGTH, header.length as usize)?;
-    read_body(header, &body, checksum)
+    read_owned_body(header, body, checksum)
 }

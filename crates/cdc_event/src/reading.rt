@@ -1,11 +1,11 @@
 //! Events from bytes.
 
-ghost use Rattle.std.specs.Prelude.{◌≡◌, ℕ, ◌+◌, ◌<◌, ◌≤◌, ◌++◌, ◌↔◌, length, take, slice_range, slice_index, IfOk, OnErr, IsSome};
+ghost use Rattle.std.specs.Prelude.{◌≡◌, ℕ, ◌+◌, ◌<◌, ◌≤◌, ◌++◌, ◌↔◌, true, length, take, slice_range, slice_index, IfOk, OnErr, IsSome};
 ghost use Rattle.cdc_event.specs.Reading.{format_at, query_at, rotate_at, xid_at, rows_query_at, table_map_at, prepare_at, timestamp_at, body_at, event_of, Gives, HasFault, HasKnownAlgorithm};
 ghost use Rattle.cdc_event.specs.Reading.{fault_of as specs_fault_of};
 ghost use Rattle.cdc_event.specs.Length.{HasGoodLength, kept_header, kept_bytes};
 ghost use Rattle.cdc_event.specs.Length.{shortened as specs_shortened};
-ghost use Rattle.cdc_event.specs.Event.{FitsHeader, header_bytes, Encodes};
+ghost use Rattle.cdc_event.specs.Event.{FitsHeader, header_bytes, is_rows_kind, Encodes};
 ghost use Rattle.cdc_event.specs.declared.event.Event.{Event};
 ghost use Rattle.cdc_event.specs.declared.fault.EventFault.{EventFault};
 ghost use Rattle.cdc_event.specs.declared.fault.ReadError.TheVariants.{Fault};
@@ -286,6 +286,49 @@ fn read_kept(header: &Header, body: &Blob, checksum: u8) -> Result<Event, ReadEr
     }
 }
 
+// Whether this is the type of a row event.
+fn is_rows(kind: u8) -> bool
+    ensures { result ≡ is_rows_kind kind }
+{
+    (kind >= 23 && kind <= 25) || (kind >= 30 && kind <= 32)
+}
+
+// The row event of a header and a body, which is kept as far as it is no checksum.
+#[tactic(auto, using(crate::proofs::Kept::kept_is_front), unfolding(crate::specs::Reading::body_at))]
+fn rows_event(header: &Header, mut body: Blob, checksum: u8) -> Event
+    requires rows { is_rows_kind header.now.kind ≡ true }
+    requires length { HasGoodLength checksum header.now }
+    requires whole { header.now.length ≡ 19 + length body }
+    ensures exact { event_of checksum header.now body ≡ Ok result }
+    ensures header { FitsHeader header.now }
+    ensures bytes { (i : ℕ) → slice_index body i < 256 }
+{
+    let less = checksum_length(checksum, header.kind);
+    let kept = shortened(*header, less);
+    let length = plain_bytes(&body).len();
+    body.truncate(length - less as usize);
+    Event {
+        header: kept,
+        body: Body::Rows { bytes: body },
+    }
+}
+
+// The event without its checksum. Rows keep the body as it is; any other body is read from it.
+#[tactic(auto, using(crate::proofs::Kept::kept_is_front), unfolding(crate::specs::Reading::body_at))]
+fn read_moved(header: &Header, body: Blob, checksum: u8) -> Result<Event, ReadError>
+    requires length { HasGoodLength checksum header.now }
+    requires whole { header.now.length ≡ 19 + length body }
+    ensures exact { Gives result (event_of checksum header.now body) }
+    ensures header { FitsHeader header.now }
+    ensures bytes { (i : ℕ) → slice_index body i < 256 }
+{
+    if is_rows(header.kind) {
+        Ok(rows_event(header, body, checksum))
+    } else {
+        read_kept(header, &body, checksum)
+    }
+}
+
 /// The event of a header and the bytes behind it, or the first fault of its body.
 ///
 /// `checksum` is the setting at the event's place: the algorithm of the last format event before it in
@@ -309,4 +352,24 @@ pub fn read_body(header: &Header, body: &Blob, checksum: u8) -> Result<Event, Re
     ensures exact { Gives result (event_of checksum header.now body.now) }
 {
     read_kept(header, body, checksum)
+}
+
+/// The same as `read_body`, of a body that is given away: rows keep it, so that its count of sharers isn't
+/// touched.
+pub fn read_owned_body(header: &Header, body: Blob, checksum: u8) -> Result<Event, ReadError>
+    requires setting { checksum ≤ 1 }
+    requires length { HasGoodLength checksum header.now }
+    requires whole { header.now.length ≡ 19 + length body }
+    // What is read is spelled so.
+    ensures event { IfOk result (λ event. Encodes event (header_bytes (kept_header checksum header.now) ++ kept_bytes checksum header.now.kind body)) }
+    // A format event that is read names a known algorithm.
+    ensures known { IfOk result (λ event. HasKnownAlgorithm event.body) }
+    // What is spelled so is read, unless memory runs out.
+    ensures only { (event : Event) → HasKnownAlgorithm event.body → Encodes event (header_bytes (kept_header checksum header.now) ++ kept_bytes checksum header.now.kind body) → Gives result (Ok event) }
+    // A fault is answered exactly where it stands.
+    ensures fault { (fault : EventFault) → (result ≡ Err (Fault fault)) ↔ HasFault header.now.kind (kept_bytes checksum header.now.kind body) fault }
+    // The same as a function of the bytes.
+    ensures exact { Gives result (event_of checksum header.now body) }
+{
+    read_moved(header, body, checksum)
 }

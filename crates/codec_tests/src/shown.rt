@@ -1,9 +1,12 @@
 //! What a reader answers, as a text.
 
 ghost use Rattle.std.specs.Prelude.{◌≡◌, ◌≤◌, ◌+◌, length, IfOk};
+ghost use Rattle.cdc_event.specs.Length.{HasGoodLength};
 
 use cdc_base::{Blob, Buffer, Memory};
-use cdc_event::{Body, Event, EventFault, Header, ReadError, check_length, read_body};
+use cdc_event::{
+    Body, Event, EventFault, Header, ReadError, check_length, read_body, read_owned_body,
+};
 use std::alloc::{AllocError, Global};
 
 /// A blob of these bytes.
@@ -58,6 +61,21 @@ fn shown(alloc: Global, read: Result<Event, ReadError>) -> Result<String, AllocE
     }
 }
 
+// What a header and a body are read as, by a shared body and by one that is given away: one text where both are the same.
+fn read_both(alloc: Global, header: &Header, body: Blob, checksum: u8) -> Result<String, AllocError>
+    requires setting { checksum ≤ 1 }
+    requires length { HasGoodLength checksum header.now }
+    requires whole { header.now.length ≡ 19 + length body }
+{
+    let shared = shown(alloc, read_body(header, &body, checksum))?;
+    let owned = shown(alloc, read_owned_body(header, body, checksum))?;
+    if shared == owned {
+        Ok(shared)
+    } else {
+        format!(in alloc; "{shared} of a shared body and {owned} of an owned one")
+    }
+}
+
 /// What a header and a body are read as, under a checksum setting, as `Debug` writes it.
 pub fn answer(alloc: Global, kind: u8, bytes: &[u8], checksum: u8) -> Result<String, AllocError>
     requires { checksum ≤ 1 }
@@ -73,7 +91,7 @@ pub fn answer(alloc: Global, kind: u8, bytes: &[u8], checksum: u8) -> Result<Str
     }
     match blob(alloc, bytes) {
         Ok(body) if body.len() + 19 == header.length as usize => {
-            shown(alloc, read_body(&header, &body, checksum))
+            read_both(alloc, &header, body, checksum)
         }
         _ => shown(alloc, Err(ReadError::Memory)),
     }

@@ -11,8 +11,8 @@ returns-then-header-ne-FORMAT-clause-fault c = λ fault e.
 
 pub returns-clause-event : goal.returns-clause-event
 returns-clause-event c =
-    whole_event c.read_body.result c.args.first c.args.checksum c.args.front.now c.in_ok-body.body c.args.header.now c.requires.begins c.requires.length c.requires.whole c.in_ok-body.ensures (search rules) c.read_body.ensures.event c.read_body.ensures.known
+    whole_event c.read_owned_body.result c.args.first c.args.checksum c.args.front.now c.in_ok-body.body c.args.header.now c.requires.begins c.requires.length c.requires.whole c.in_ok-body.ensures (search rules) c.read_owned_body.ensures.event c.read_owned_body.ensures.known
 
 pub returns-clause-fault : goal.returns-clause-fault
 returns-clause-fault c = λ fault e.
-    whole_fault c.args.first c.args.checksum c.args.front.now c.in_ok-body.body c.args.header.now fault c.requires.begins c.requires.length c.requires.whole c.in_ok-body.ensures (search rules) ((c.read_body.ensures.fault fault).0 e)
+    whole_fault c.args.first c.args.checksum c.args.front.now c.in_ok-body.body c.args.header.now fault c.requires.begins c.requires.length c.requires.whole c.in_ok-body.ensures (search rules) ((c.read_owned_body.ensures.fault fault).0 e)
