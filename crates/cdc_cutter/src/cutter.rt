@@ -7,13 +7,13 @@ ghost use Rattle.cdc_event.specs.File.{setting_behind as specs_setting_behind};
 ghost use Rattle.cdc_event.specs.declared.fault.FileFault.{FileFault};
 ghost use Rattle.cdc_event.specs.declared.fault.FileFault.TheVariants.{Event as EventIsFaulty};
 ghost use Rattle.cdc_cutter.specs.declared.cut.Cut.TheVariants.{Event as GivesEvent, Fault as GivesFault};
-ghost use Rattle.cdc_cutter.specs.declared.stage.Stage.TheVariants.{Behind, Faulty};
-ghost use Rattle.cdc_cutter.specs.Cutting.{begun, Holds, Answers, BeginsEvent, CutsEvent, Cuts, PassesMagic, Takes, next_file_of};
+ghost use Rattle.cdc_cutter.specs.declared.state.CutterState.TheVariants.{Behind, Faulty};
+ghost use Rattle.cdc_cutter.specs.Cutting.{cutter_at, Holds, Answers, BeginsEvent, CutsEvent, Cuts, PassesMagic, Takes, next_file_of};
 
 use crate::cut::Cut;
 use crate::pending::{Look, Pending};
-use crate::stage::{MAGIC, Stage, pass_magic};
-use crate::whole::{read_whole, setting_behind};
+use crate::state::{CutterState, MAGIC, pass_magic};
+use crate::whole::{read_piece, setting_behind};
 use cdc_base::{Blob, Memory, Place};
 use cdc_event::{Event, EventFault, FileFault, ReadError};
 use std::alloc::Global;
@@ -27,7 +27,7 @@ pub struct Cutter {
     alloc: Global,
     place: Place,
     checksum: u8,
-    stage: Stage,
+    state: CutterState,
     pending: Pending,
 }
 
@@ -46,7 +46,7 @@ impl Model for Cutter {
 impl Cutter {
     /// A cutter at the start of file 1.
     pub fn new(alloc: Global) -> Result<Cutter, Memory>
-        ensures cutter { IfOk result (λ cutter. cutter ≡ begun 1 0 0) }
+        ensures cutter { IfOk result (λ cutter. cutter ≡ cutter_at 1 0 0) }
         ensures holds { IfOk result (λ cutter. Holds cutter 0 0 [] []) }
     {
         Cutter::resumed(alloc, Place { file: 1, at: 0 }, 0)
@@ -57,19 +57,19 @@ impl Cutter {
     pub fn resumed(alloc: Global, place: Place, checksum: u8) -> Result<Cutter, Memory>
         requires setting { checksum ≤ 1 }
         requires counted { place.at < 2 ^ 63 }
-        ensures cutter { IfOk result (λ cutter. cutter ≡ begun place.file place.at checksum) }
+        ensures cutter { IfOk result (λ cutter. cutter ≡ cutter_at place.file place.at checksum) }
         ensures holds { IfOk result (λ cutter. Holds cutter place.at checksum [] []) }
     {
-        let stage = if place.at == 0 {
-            Stage::Start
+        let state = if place.at == 0 {
+            CutterState::Start
         } else {
-            Stage::Behind
+            CutterState::Behind
         };
         Ok(Cutter {
             alloc,
             place,
             checksum,
-            stage,
+            state,
             pending: Pending::new(alloc),
         })
     }
@@ -77,13 +77,13 @@ impl Cutter {
     // Appends a piece, and passes the magic where it is there then.
     fn take(&mut self, piece: &[u8]) -> Result<(), Memory>
         requires { self.old.at + length self.old.rest + length piece.now < 2 ^ 63 }
-        ensures ok { OnOk result (Takes self.old.stage piece.now self.old self.new) }
+        ensures ok { OnOk result (Takes self.old.state piece.now self.old self.new) }
         ensures err { OnErr result (self.new ≡ self.old) }
     {
         self.pending.tail.push(piece)?;
-        if let Stage::Start = self.stage {
-            self.stage = pass_magic(&mut self.pending.tail);
-            if let Stage::First = self.stage {
+        if let CutterState::Start = self.state {
+            self.state = pass_magic(&mut self.pending.tail);
+            if let CutterState::First = self.state {
                 self.place.at = MAGIC.len() as u64;
                 self.checksum = 0;
             }
@@ -97,11 +97,11 @@ impl Cutter {
         // Whatever it may have been fed and have given, it has been fed the piece besides.
         ensures fed { OnOk result ((start checksum : ℕ) (fed : List ℕ) (given : List PlacedEvent) → Holds self.old start checksum fed given → Holds self.new start checksum (fed ++ piece.now) given) }
         ensures file { self.new.file ≡ self.old.file }
-        ensures faulty { (fault : FileFault) → self.old.stage ≡ Faulty fault → IsOk result × (self.new ≡ self.old) }
+        ensures faulty { (fault : FileFault) → self.old.state ≡ Faulty fault → IsOk result × (self.new ≡ self.old) }
         ensures err { OnErr result (self.new ≡ self.old) }
     {
-        match self.stage {
-            Stage::Faulty(_) => Ok(()),
+        match self.state {
+            CutterState::Faulty(_) => Ok(()),
             _ => self.take(piece),
         }
     }
@@ -109,10 +109,10 @@ impl Cutter {
     // Stops at a fault of the event that begins here.
     fn stop(&mut self, fault: EventFault) -> Cut
         ensures cut { result ≡ GivesFault (record { file = self.old.file; at = self.old.at }) (EventIsFaulty fault) }
-        ensures new { self.new ≡ record self.old { stage = Faulty (EventIsFaulty fault) } }
+        ensures new { self.new ≡ record self.old { state = Faulty (EventIsFaulty fault) } }
     {
         let fault = FileFault::Event(fault);
-        self.stage = Stage::Faulty(fault);
+        self.state = CutterState::Faulty(fault);
         Cut::Fault {
             place: self.place,
             fault,
@@ -124,12 +124,12 @@ impl Cutter {
         requires known { HasKnownAlgorithm event.body }
         requires counted { self.old.at + size + length self.old.rest < 2 ^ 63 }
         ensures cut { result ≡ GivesEvent (record { file = self.old.file; at = self.old.at }) (record { file = self.old.file; at = self.old.at + size }) event (specs_setting_behind self.old.checksum event.body) }
-        ensures new { self.new ≡ record { file = self.old.file; at = self.old.at + size; checksum = specs_setting_behind self.old.checksum event.body; stage = Behind; rest = self.old.rest } }
+        ensures new { self.new ≡ record { file = self.old.file; at = self.old.at + size; checksum = specs_setting_behind self.old.checksum event.body; state = Behind; rest = self.old.rest } }
     {
         let at = self.place;
         self.place.at += u64::from(size);
         self.checksum = setting_behind(self.checksum, &event.body);
-        self.stage = Stage::Behind;
+        self.state = CutterState::Behind;
         Cut::Event {
             at,
             end: self.place,
@@ -140,7 +140,7 @@ impl Cutter {
 
     // Cuts what stands where an event begins.
     fn cut_event(&mut self, first: bool) -> Result<Cut, Memory>
-        requires { BeginsEvent first self.old.stage }
+        requires { BeginsEvent first self.old.state }
         ensures cut { IfOk result (CutsEvent first self.old self.new) }
         ensures err { OnErr result (self.new ≡ self.old) }
     {
@@ -148,7 +148,7 @@ impl Cutter {
             Look::Unfinished => Ok(Cut::Need),
             Look::Wrong(fault) => Ok(self.stop(fault)),
             Look::Whole(header) => {
-                match read_whole(&self.pending.front, first, &header, self.checksum) {
+                match read_piece(&self.pending.front, first, &header, self.checksum) {
                     Ok(event) => {
                         self.pending.front.advance(header.length as usize);
                         Ok(self.pass(event, header.length))
@@ -162,15 +162,15 @@ impl Cutter {
 
     // The next answer, in terms of the bytes that aren't cut.
     fn step(&mut self) -> Result<Cut, Memory>
-        ensures cut { IfOk result (Cuts self.old.stage self.old self.new) }
-        ensures again { (fault : FileFault) → self.old.stage ≡ Faulty fault → IsOk result }
+        ensures cut { IfOk result (Cuts self.old.state self.old self.new) }
+        ensures again { (fault : FileFault) → self.old.state ≡ Faulty fault → IsOk result }
         ensures err { OnErr result (self.new ≡ self.old) }
     {
-        match self.stage {
-            Stage::Start => Ok(Cut::Need),
-            Stage::First => self.cut_event(true),
-            Stage::Behind => self.cut_event(false),
-            Stage::Faulty(fault) => Ok(Cut::Fault {
+        match self.state {
+            CutterState::Start => Ok(Cut::Need),
+            CutterState::First => self.cut_event(true),
+            CutterState::Behind => self.cut_event(false),
+            CutterState::Faulty(fault) => Ok(Cut::Fault {
                 place: self.place,
                 fault,
             }),
@@ -185,8 +185,8 @@ impl Cutter {
         // Whatever it may have been fed and have given, this is the answer that the fed bytes have.
         ensures answer { IfOk result (λ cut. (start checksum : ℕ) (fed : List ℕ) (given : List PlacedEvent) → Holds self.old start checksum fed given → Answers start checksum fed given self.old self.new cut) }
         // The same in terms of the bytes that aren't cut yet.
-        ensures cut { IfOk result (Cuts self.old.stage self.old self.new) }
-        ensures again { (fault : FileFault) → self.old.stage ≡ Faulty fault → IsOk result }
+        ensures cut { IfOk result (Cuts self.old.state self.old self.new) }
+        ensures again { (fault : FileFault) → self.old.state ≡ Faulty fault → IsOk result }
         ensures err { OnErr result (self.new ≡ self.old) }
     {
         self.step()
@@ -205,10 +205,10 @@ impl Cutter {
     /// Drops what is left of the file, and goes to byte 0 of the next one. After a fault nothing changes.
     pub fn next_file(&mut self)
         requires { self.old.file < 2 ^ 32 - 1 }
-        ensures file { self.new ≡ next_file_of self.old.stage self.old }
-        ensures holds { ((fault : FileFault) → self.old.stage ≡ Faulty fault → ⊥) → (checksum : ℕ) → Holds self.new 0 checksum [] [] }
+        ensures file { self.new ≡ next_file_of self.old.state self.old }
+        ensures holds { ((fault : FileFault) → self.old.state ≡ Faulty fault → ⊥) → (checksum : ℕ) → Holds self.new 0 checksum [] [] }
     {
-        if let Stage::Faulty(_) = self.stage {
+        if let CutterState::Faulty(_) = self.state {
             return;
         }
         self.pending.front = Blob::empty();
@@ -217,6 +217,6 @@ impl Cutter {
             file: self.place.file + 1,
             at: 0,
         };
-        self.stage = Stage::Start;
+        self.state = CutterState::Start;
     }
 }

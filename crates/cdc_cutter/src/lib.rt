@@ -8,10 +8,10 @@
 mod cut;
 mod cutter;
 mod pending;
-mod stage;
+mod state;
 mod whole;
 
 pub use cdc_event::FileFault;
 pub use cut::Cut;
 pub use cutter::Cutter;
-pub use stage::Stage;
+pub use state::CutterState;

@@ -26,7 +26,7 @@ pub fn setting_behind(before: u8, body: &Body) -> u8
 }
 
 /// The event with this header at the front of these bytes, which have as many as it counts.
-pub fn read_whole(
+pub fn read_piece(
     front: &Blob,
     first: bool,
     header: &Header,

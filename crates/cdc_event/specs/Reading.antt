@@ -51,8 +51,8 @@ unfoldable pub guard : Bool → Option Body → Option Body
 guard test read = if test then read else None
 
 -- type 15: text, creation time, lengths, algorithm and tail, each at its place
-abbrev pub format_of : List ℕ → Body
-format_of bytes = Format (slice_range bytes 2 52) (number_of (slice_range bytes 52 56)) (slice_range bytes 57 (length bytes - 5)) (slice_index bytes (length bytes - 5)) (number_of (slice_range bytes (length bytes - 4) (length bytes)))
+abbrev pub format_body_of : List ℕ → Body
+format_body_of bytes = Format (slice_range bytes 2 52) (number_of (slice_range bytes 52 56)) (slice_range bytes 57 (length bytes - 5)) (slice_index bytes (length bytes - 5)) (number_of (slice_range bytes (length bytes - 4) (length bytes)))
 
 -- at least 62 bytes, version 4, headers of 19 bytes, algorithm 0 or 1
 unfoldable pub format_at : List ℕ → Option Body
@@ -61,7 +61,7 @@ format_at bytes =
     (guard (number_of (slice_range bytes 0 2) == 4)
     (guard (slice_index bytes 56 == 19)
     (guard (nat_le (slice_index bytes (length bytes - 5)) 1)
-    (Some (format_of bytes)))))
+    (Some (format_body_of bytes)))))
 
 -- type 2, by the lengths of its status variables and database
 abbrev pub query_of : ℕ → ℕ → List ℕ → Body

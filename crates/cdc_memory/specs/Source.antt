@@ -6,8 +6,8 @@ use Rattle.cdc_memory.specs.declared.source.MemSource.{MemSource}
 use Rattle.cdc_memory.specs.declared.source.PureSource.{PureSource}
 
 -- the files that it holds
-abbrev pub files_of : MemSource → List (List ℕ)
-files_of source = source.files.files.items
+abbrev pub held_files : MemSource → List (List ℕ)
+held_files source = source.files.files.items
 
 -- the least place that was asked for
 abbrev pub lowest_of : MemSource → Option Place
@@ -18,8 +18,8 @@ abbrev pub calls_of : MemSource → Calls
 calls_of source = source.calls
 
 -- the same of a source that never fails
-abbrev pub pure_files_of : PureSource → List (List ℕ)
-pure_files_of source = source.files.files.items
+abbrev pub pure_held_files : PureSource → List (List ℕ)
+pure_held_files source = source.files.files.items
 
 abbrev pub pure_lowest_of : PureSource → Option Place
 pure_lowest_of source = source.files.lowest

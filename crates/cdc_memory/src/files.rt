@@ -1,7 +1,7 @@
 //! The files that a source in memory holds.
 
 ghost use Rattle.std.specs.Prelude.{◌≡◌, ◌≤◌, ◌<◌, ◌-◌, ◌^◌, length, map, min, sum, None, IfOk};
-ghost use Rattle.cdc_outside.specs.Source.{file_of, lowered, Reads};
+ghost use Rattle.cdc_outside.specs.Source.{file_of, lowered, ReadsFile};
 
 use cdc_base::{Blob, Memory, Place};
 use cdc_outside::lowest_place;
@@ -58,7 +58,7 @@ impl MemFiles {
     pub fn read(&self, file: u32, at: u64, into: &mut [u8]) -> usize
         requires first { 1 ≤ file }
         requires last { file ≤ length self.now.files.items }
-        ensures read { Reads (file_of self.now.files.items file) at into.new result }
+        ensures read { ReadsFile (file_of self.now.files.items file) at into.new result }
         ensures full { result ≡ min (length into.old) (length (file_of self.now.files.items file) - at) }
     {
         let bytes = self.files[file as usize - 1].bytes();

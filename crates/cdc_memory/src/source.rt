@@ -2,7 +2,7 @@
 
 ghost use Rattle.std.specs.Prelude.{◌≡◌, ◌≤◌, ◌<◌, ◌-◌, ◌^◌, IsTrue, false, true, refl, length, map, min, sum, None, IfOk, IsOk};
 ghost use Rattle.cdc_outside.specs.Count.{RisesOnErr};
-ghost use Rattle.cdc_outside.specs.Source.{file_of, size_of, lowered, Reads};
+ghost use Rattle.cdc_outside.specs.Source.{file_of, size_of, lowered, ReadsFile};
 ghost use Rattle.cdc_memory.specs.Calls.{at_first, Counts};
 
 use crate::calls::CallPlan;
@@ -19,14 +19,14 @@ pub struct MemSource {
 }
 
 impl MemSource {
-    ghost use Rattle.cdc_memory.specs.Source.{files_of, lowest_of, calls_of};
+    ghost use Rattle.cdc_memory.specs.Source.{held_files, lowest_of, calls_of};
 
     /// These files, their bytes shared. The k-th call (from 1, of any kind) fails for each k of `fails`, and no
     /// other does.
     pub fn new(alloc: Global, files: &[Blob], fails: &[u64]) -> Result<MemSource, Memory>
         requires few { length files.now < 2 ^ 32 }
         requires fit { sum (map length files.now) ≤ 2 ^ 54 }
-        ensures files { IfOk result (λ source. files_of source ≡ files.now) }
+        ensures files { IfOk result (λ source. held_files source ≡ files.now) }
         ensures lowest { IfOk result (λ source. lowest_of source ≡ None) }
         ensures calls { IfOk result (λ source. calls_of source ≡ at_first fails.now) }
     {
@@ -52,13 +52,13 @@ impl MemSource {
 }
 
 impl Source for MemSource {
-    ghost use Rattle.cdc_memory.specs.Source.{files_of, lowest_of, calls_of};
+    ghost use Rattle.cdc_memory.specs.Source.{held_files, lowest_of, calls_of};
 
     ghost tells = { true };
 
-    ghost held = { files_of };
+    ghost held = { held_files };
 
-    ghost sizes = { λ source. map length (files_of source) };
+    ghost sizes = { λ source. map length (held_files source) };
 
     ghost lowest = { lowest_of };
 
@@ -69,8 +69,8 @@ impl Source for MemSource {
     ghost sizes_are_lengths = { λ source told. refl };
 
     fn files(&mut self) -> Result<u32, Failed>
-        ensures number { IfOk result (λ number. number ≡ length (files_of self.old)) }
-        ensures held { files_of self.new ≡ files_of self.old }
+        ensures number { IfOk result (λ number. number ≡ length (held_files self.old)) }
+        ensures held { held_files self.new ≡ held_files self.old }
         ensures lowest { lowest_of self.new ≡ lowest_of self.old }
         ensures faults { RisesOnErr (calls_of self.old).faults (calls_of self.new).faults result }
         ensures call { Counts false (calls_of self.old) (calls_of self.new) result }
@@ -81,9 +81,9 @@ impl Source for MemSource {
 
     fn length(&mut self, file: u32) -> Result<u64, Failed>
         requires first { 1 ≤ file }
-        requires last { file ≤ length (files_of self.old) }
-        ensures exact { IfOk result (λ bytes. bytes ≡ length (file_of (files_of self.old) file)) }
-        ensures held { files_of self.new ≡ files_of self.old }
+        requires last { file ≤ length (held_files self.old) }
+        ensures exact { IfOk result (λ bytes. bytes ≡ length (file_of (held_files self.old) file)) }
+        ensures held { held_files self.new ≡ held_files self.old }
         ensures lowest { lowest_of self.new ≡ lowest_of self.old }
         ensures faults { RisesOnErr (calls_of self.old).faults (calls_of self.new).faults result }
         ensures call { Counts false (calls_of self.old) (calls_of self.new) result }
@@ -94,10 +94,10 @@ impl Source for MemSource {
 
     fn read_at(&mut self, file: u32, at: u64, into: &mut [u8]) -> Result<usize, Failed>
         requires first { 1 ≤ file }
-        requires last { file ≤ length (files_of self.old) }
-        ensures read { IfOk result (λ read. Reads (file_of (files_of self.old) file) at into.new read) }
-        ensures full { IfOk result (λ read. read ≡ min (length into.old) (length (file_of (files_of self.old) file) - at)) }
-        ensures held { files_of self.new ≡ files_of self.old }
+        requires last { file ≤ length (held_files self.old) }
+        ensures read { IfOk result (λ read. ReadsFile (file_of (held_files self.old) file) at into.new read) }
+        ensures full { IfOk result (λ read. read ≡ min (length into.old) (length (file_of (held_files self.old) file) - at)) }
+        ensures held { held_files self.new ≡ held_files self.old }
         ensures lowest { lowest_of self.new ≡ lowered (lowest_of self.old) file at }
         ensures faults { RisesOnErr (calls_of self.old).faults (calls_of self.new).faults result }
         ensures call { Counts false (calls_of self.old) (calls_of self.new) result }
@@ -115,13 +115,13 @@ pub struct PureSource {
 }
 
 impl PureSource {
-    ghost use Rattle.cdc_memory.specs.Source.{pure_files_of, pure_lowest_of};
+    ghost use Rattle.cdc_memory.specs.Source.{pure_held_files, pure_lowest_of};
 
     /// These files, their bytes shared.
     pub fn new(alloc: Global, files: &[Blob]) -> Result<PureSource, Memory>
         requires few { length files.now < 2 ^ 32 }
         requires fit { sum (map length files.now) ≤ 2 ^ 54 }
-        ensures files { IfOk result (λ source. pure_files_of source ≡ files.now) }
+        ensures files { IfOk result (λ source. pure_held_files source ≡ files.now) }
         ensures lowest { IfOk result (λ source. pure_lowest_of source ≡ None) }
     {
         Ok(PureSource {
@@ -138,13 +138,13 @@ impl PureSource {
 }
 
 impl Source for PureSource {
-    ghost use Rattle.cdc_memory.specs.Source.{pure_files_of, pure_lowest_of};
+    ghost use Rattle.cdc_memory.specs.Source.{pure_held_files, pure_lowest_of};
 
     ghost tells = { true };
 
-    ghost held = { pure_files_of };
+    ghost held = { pure_held_files };
 
-    ghost sizes = { λ source. map length (pure_files_of source) };
+    ghost sizes = { λ source. map length (pure_held_files source) };
 
     ghost lowest = { pure_lowest_of };
 
@@ -156,8 +156,8 @@ impl Source for PureSource {
 
     fn files(&mut self) -> Result<u32, Failed>
         ensures ok { IsOk result }
-        ensures number { IfOk result (λ number. number ≡ length (pure_files_of self.old)) }
-        ensures held { pure_files_of self.new ≡ pure_files_of self.old }
+        ensures number { IfOk result (λ number. number ≡ length (pure_held_files self.old)) }
+        ensures held { pure_held_files self.new ≡ pure_held_files self.old }
         ensures lowest { pure_lowest_of self.new ≡ pure_lowest_of self.old }
     {
         Ok(self.files.number())
@@ -165,10 +165,10 @@ impl Source for PureSource {
 
     fn length(&mut self, file: u32) -> Result<u64, Failed>
         requires first { 1 ≤ file }
-        requires last { file ≤ length (pure_files_of self.old) }
+        requires last { file ≤ length (pure_held_files self.old) }
         ensures ok { IsOk result }
-        ensures exact { IfOk result (λ bytes. bytes ≡ length (file_of (pure_files_of self.old) file)) }
-        ensures held { pure_files_of self.new ≡ pure_files_of self.old }
+        ensures exact { IfOk result (λ bytes. bytes ≡ length (file_of (pure_held_files self.old) file)) }
+        ensures held { pure_held_files self.new ≡ pure_held_files self.old }
         ensures lowest { pure_lowest_of self.new ≡ pure_lowest_of self.old }
     {
         Ok(self.files.length(file))
@@ -176,11 +176,11 @@ impl Source for PureSource {
 
     fn read_at(&mut self, file: u32, at: u64, into: &mut [u8]) -> Result<usize, Failed>
         requires first { 1 ≤ file }
-        requires last { file ≤ length (pure_files_of self.old) }
+        requires last { file ≤ length (pure_held_files self.old) }
         ensures ok { IsOk result }
-        ensures read { IfOk result (λ read. Reads (file_of (pure_files_of self.old) file) at into.new read) }
-        ensures full { IfOk result (λ read. read ≡ min (length into.old) (length (file_of (pure_files_of self.old) file) - at)) }
-        ensures held { pure_files_of self.new ≡ pure_files_of self.old }
+        ensures read { IfOk result (λ read. ReadsFile (file_of (pure_held_files self.old) file) at into.new read) }
+        ensures full { IfOk result (λ read. read ≡ min (length into.old) (length (file_of (pure_held_files self.old) file) - at)) }
+        ensures held { pure_held_files self.new ≡ pure_held_files self.old }
         ensures lowest { pure_lowest_of self.new ≡ lowered (pure_lowest_of self.old) file at }
     {
         self.files.ask(file, at);

@@ -1,4 +1,4 @@
--- The grammar of a node's log as a machine, for proofs: where one event leads from each stage, and what a run comes to.
+-- The grammar of a node's log as a machine, for proofs: where one event leads from each progress, and what a run comes to.
 use Rattle.std.specs.Prelude.{ℕ, List, [], ◌∷◌, ◌++◌, Option, Some, None}
 use Rattle.std.specs.Option.{option_map}
 use Rattle.std.specs.List.{cons_option}
@@ -7,7 +7,7 @@ use Rattle.cdc_model.specs.declared.entry.EntryKind.TheVariants.{Prepare, OnePha
 use Rattle.cdc_model.specs.declared.fault.GroupFault.{GroupFault}
 use Rattle.cdc_model.specs.Records.{Row, LogEntry}
 use Rattle.cdc_model.specs.Sign.{Sign, SignedEvent, Gtid, Ddl, CommitTime, BeatTime, RowEvent, NumberEvent, PrepareEvent, BeginText, CommitText, RollbackText, XaStartText, XaEndText, XaCommitText, XaRollbackText}
-use Rattle.cdc_model.specs.Group.{Content, TableRows, OneStatement, rows_of, Stage, Out, Wait, Xa, End, Local}
+use Rattle.cdc_model.specs.Group.{Content, TableRows, OneStatement, rows_of, Progress, Out, Wait, Xa, End, Local}
 use Rattle.cdc_model.specs.Misfit.{misfit}
 
 -- ---- where an event that fits leads
@@ -16,7 +16,7 @@ abbrev pub with_row : Content → Row → Content
 with_row (TableRows rows) row = TableRows (rows ++ row ∷ [])
 with_row (OneStatement statement) row = OneStatement statement
 
-abbrev pub advance : Stage → Sign → Stage
+abbrev pub advance : Progress → Sign → Progress
 advance Out (CommitTime timestamp) = Wait timestamp
 advance Out BeginText = Local []
 advance Out (XaStartText xid) = Xa None xid (TableRows [])
@@ -43,7 +43,7 @@ prepared None seconds kind = kind
 prepared (Some timestamp) seconds (Prepare xid rows) = OnePhase xid rows timestamp seconds
 prepared (Some timestamp) seconds kind = kind
 
-abbrev pub made : Stage → ℕ → Sign → Option EntryKind
+abbrev pub made : Progress → ℕ → Sign → Option EntryKind
 made Out seconds (BeatTime timestamp) = Some (Beat timestamp)
 made Out seconds (XaRollbackText xid) = Some (Rollback xid)
 made Out seconds _ = None
@@ -64,14 +64,14 @@ entry_at file last kind = record {
   checksum = last.checksum;
 }
 
-abbrev pub given : ℕ → Stage → SignedEvent → Option LogEntry
-given file stage event = option_map (entry_at file event) (made stage event.seconds event.sign)
+abbrev pub given : ℕ → Progress → SignedEvent → Option LogEntry
+given file progress event = option_map (entry_at file event) (made progress event.seconds event.sign)
 
 -- ---- runs
 
 -- how a run ends: all events fit, and an unfinished item has come so far; or an event doesn't fit
 pub data Ending : Type 0 where
-  Reached : Stage → Ending
+  Reached : Progress → Ending
   Misplaced : SignedEvent → GroupFault → Ending
 
 -- an event that the table has a fault for ends the run, and any other gives its entry, if it ends one, before those of later events
@@ -79,8 +79,8 @@ abbrev pub judged : SignedEvent → Option GroupFault → Option LogEntry → Li
 judged event None entry later = (cons_option entry later.0, later.1)
 judged event (Some fault) entry later = ([], Misplaced event fault)
 
--- the entries of events of file `file` from a stage on, and how the run ends
-abbrev pub outcome : ℕ → Stage → List SignedEvent → List LogEntry × Ending
-outcome file stage [] = ([], Reached stage)
-outcome file stage (event ∷ events) =
-    judged event (misfit stage event.sign) (given file stage event) (outcome file (advance stage event.sign) events)
+-- the entries of events of file `file` from a progress on, and how the run ends
+abbrev pub outcome : ℕ → Progress → List SignedEvent → List LogEntry × Ending
+outcome file progress [] = ([], Reached progress)
+outcome file progress (event ∷ events) =
+    judged event (misfit progress event.sign) (given file progress event) (outcome file (advance progress event.sign) events)

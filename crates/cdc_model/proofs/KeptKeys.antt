@@ -6,10 +6,10 @@ use Rattle.std.specs.declared.cmp.Ordering.TheVariants.{Less, Equal, Greater}
 use Rattle.cdc_base.specs.declared.key.Key.{Key}
 use Rattle.cdc_base.specs.Key.{key_order}
 use Rattle.cdc_model.specs.Kept.{IsKeptKey}
-use Rattle.cdc_model.specs.Transaction.{placed, put}
+use Rattle.cdc_model.specs.Transaction.{placed_key, put}
 
 placed_kept : (order : Ordering) (key first : Key) (rest later : List Key) → IsKeptKey key → AllByRecursion IsKeptKey (first ∷ rest)
-    → AllByRecursion IsKeptKey later → AllByRecursion IsKeptKey (placed order key first rest later)
+    → AllByRecursion IsKeptKey later → AllByRecursion IsKeptKey (placed_key order key first rest later)
 placed_kept Less key first rest later kept all others = (kept, all)
 placed_kept Equal key first rest later kept all others = all
 placed_kept Greater key first rest later kept all others = (all.0, others)

@@ -5,7 +5,7 @@ use Rattle.cdc_model.specs.declared.fault.GroupFault.{GroupFault}
 use Rattle.cdc_model.specs.declared.fault.GroupFault.TheVariants.{NoTimestamp, BadTimestamp, Statement, XidDiffers, RowsOutside, OutOfPlace, BadDdl}
 use Rattle.cdc_model.specs.Start.{same_xid}
 use Rattle.cdc_model.specs.Sign.{Sign, Gtid, Quiet, Ddl, Marked, CommitTime, BeatTime, NoTime, RowEvent, NumberEvent, PrepareEvent, CommitText, RollbackText, SavepointText, XaStartText, XaEndText, XaCommitText, OtherText, Foreign}
-use Rattle.cdc_model.specs.Group.{Content, TableRows, OneStatement, Stage, Out, Wait, Xa, End, Local}
+use Rattle.cdc_model.specs.Group.{Content, TableRows, OneStatement, Progress, Out, Wait, Xa, End, Local}
 
 -- outside a group
 abbrev pub misfit_outside : Sign → Option GroupFault
@@ -95,7 +95,7 @@ misfit_local NumberEvent = None
 misfit_local _ = Some OutOfPlace
 
 -- what is wrong with an event of this sign behind an unfinished item that has come so far; nothing where it fits
-abbrev pub misfit : Stage → Sign → Option GroupFault
+abbrev pub misfit : Progress → Sign → Option GroupFault
 misfit Out sign = misfit_outside sign
 misfit (Wait timestamp) sign = misfit_waiting sign
 misfit (Xa time xid content) sign = misfit_xa xid content sign

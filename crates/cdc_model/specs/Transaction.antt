@@ -32,14 +32,14 @@ abbrev pub logs_low_water_mark : List NodeLog → ℕ
 logs_low_water_mark logs = low_water_mark (map (λ log. node_low_water_mark (reached log)) logs)
 
 -- a key at its place among others in order; one that is there already is dropped
-abbrev pub placed : Ordering → Key → Key → List Key → List Key → List Key
-placed Less key first rest later = key ∷ first ∷ rest
-placed Equal key first rest later = first ∷ rest
-placed Greater key first rest later = first ∷ later
+abbrev pub placed_key : Ordering → Key → Key → List Key → List Key → List Key
+placed_key Less key first rest later = key ∷ first ∷ rest
+placed_key Equal key first rest later = first ∷ rest
+placed_key Greater key first rest later = first ∷ later
 
 abbrev pub put : Key → List Key → List Key
 put key [] = key ∷ []
-put key (first ∷ rest) = placed (key_order key first) key first rest (put key rest)
+put key (first ∷ rest) = placed_key (key_order key first) key first rest (put key rest)
 
 -- the settled keys of some branches, in order, each once
 abbrev pub add_settled : ℕ → List Key → CommittedBranch → List Key

@@ -25,7 +25,7 @@ abbrev pub LoweredTo : Option Place → ℕ → ℕ → Option Place → Type 0
 LoweredTo before file at now = (now ≡ before) ⊎ (now ≡ lowered before file at)
 
 -- a read of some bytes, from the byte at on, at the front of the buffer
-pub record Reads (file : List ℕ) (at : ℕ) (buffer : List ℕ) (read : ℕ) : Type 0 where
+pub record ReadsFile (file : List ℕ) (at : ℕ) (buffer : List ℕ) (read : ℕ) : Type 0 where
   pub bytes : take read buffer ≡ take read (drop at file)
   pub there : read ≤ length file - at
   pub none : (read ≡ 0) ↔ ((length file ≤ at) ⊎ (length buffer ≡ 0))

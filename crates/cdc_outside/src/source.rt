@@ -3,7 +3,7 @@
 ghost use Rattle.std.specs.Prelude.{◌≡◌, ℕ, ◌≤◌, ◌^◌, Bool, IsTrue, List, Option, length, map, sum, IfOk};
 ghost use Rattle.cdc_base.specs.declared.place.Place.{Place};
 ghost use Rattle.cdc_outside.specs.Count.{RisesOnErr};
-ghost use Rattle.cdc_outside.specs.Source.{earlier_place, file_of, lowered, size_of, Reads};
+ghost use Rattle.cdc_outside.specs.Source.{earlier_place, file_of, lowered, size_of, ReadsFile};
 
 use crate::failed::Failed;
 use cdc_base::Place;
@@ -54,7 +54,7 @@ pub trait Source: Drop {
         requires first { 1 ≤ file }
         requires last { file ≤ length (sizes self.old) }
         ensures within { IfOk result (λ read. read ≤ length into.old) }
-        ensures read { IsTrue tells → IfOk result (λ read. Reads (file_of (held self.old) file) at into.new read) }
+        ensures read { IsTrue tells → IfOk result (λ read. ReadsFile (file_of (held self.old) file) at into.new read) }
         ensures held { held self.new ≡ held self.old }
         ensures sizes { sizes self.new ≡ sizes self.old }
         // Also where it failed.

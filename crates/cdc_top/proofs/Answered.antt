@@ -7,7 +7,7 @@ use Rattle.cdc_top.specs.declared.answer.Answer.{Answer}
 use Rattle.cdc_top.specs.declared.answer.Answer.TheVariants.{Done, Usage, NotYet, Read, Memory, Sink}
 use Rattle.cdc_top.specs.Answers.{status_of}
 use Rattle.cdc_top.specs.Thin.{IsThinLog, AreThinLogs}
-use Rattle.cdc_top.specs.Logs.{files_of, IsLeastNotThin, RoseAt}
+use Rattle.cdc_top.specs.Logs.{log_files_of, IsLeastNotThin, RoseAt}
 use Rattle.cdc_top.specs.Words.{is_print}
 use Rattle.cdc_top.specs.Call.{PrintCall, IsInForm, WroteAll, WroteFront, WroteNothing, IsAnswerOf, NoneFailed, IsAnswered}
 

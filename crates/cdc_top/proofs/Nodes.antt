@@ -10,7 +10,7 @@ use Rattle.cdc_model.specs.declared.start.NodeLog.{NodeLog}
 use Rattle.cdc_top.specs.declared.logs.LogsError.{LogsError}
 use Rattle.cdc_top.specs.declared.logs.LogsError.TheVariants.{Read, Memory, NotYet}
 use Rattle.cdc_top.specs.Thin.{IsThinLog, IsNotThin, AreThinLogs}
-use Rattle.cdc_top.specs.Logs.{files_of, IsThinAt, IsLeastNotThin, or_node, IsStep, HasStepCause, RoseAt, NoneFell, HasCause, IsReadTo}
+use Rattle.cdc_top.specs.Logs.{log_files_of, IsThinAt, IsLeastNotThin, or_node, IsReadStep, HasStepCause, RoseAt, NoneFell, HasCause, IsReadTo}
 
 -- a node that was read holds what it held
 pub held_kept : {S : Type 0} (held : S → List (List ℕ)) (items : List S) (place : ℕ) (old new : S) → old ≡ get_or items place old → held new ≡ held old
@@ -60,7 +60,7 @@ all_zip_push (node ∷ nodes) (other ∷ logs) files log all thin = (all.0, all_
 
 -- one node more
 pub step_kept : (nodes : List (List (List ℕ))) (count : ℕ) (files : List (List ℕ)) (before logs : List NodeLog) (not_yet now : Option ℕ) → count < length nodes → get_or nodes count [] ≡ files
-    → IsReadTo nodes count before not_yet → IsStep files (count + 1) before logs not_yet now → IsReadTo nodes (count + 1) logs now
+    → IsReadTo nodes count before not_yet → IsReadStep files (count + 1) before logs not_yet now → IsReadTo nodes (count + 1) logs now
 step_kept nodes count files before logs None now within here known (inl step) =
     let at : count + 1 - 1 ≡ count = omega arith in
     let log = step.0 in

@@ -4,4 +4,4 @@ use Rattle.cdc_cutter.proofs.Pieces.{if_ok}
 use Rattle.cdc_cutter.proofs.cutter.Cutter.next.Goals as goal
 
 pub returns-clause-answer : goal.returns-clause-answer
-returns-clause-answer c = if_ok c.step.result c.step.ensures.cut (λ cut t. answered c.args.self.now.stage cut c.args.self.now c.step.new.self refl t)
+returns-clause-answer c = if_ok c.step.result c.step.ensures.cut (λ cut t. answered c.args.self.now.state cut c.args.self.now c.step.new.self refl t)

@@ -2,7 +2,7 @@ use Rattle.std.proofs.Common.{rules, ◌≡◌, subst}
 use Rattle.cdc_event.specs.declared.fault.EventFault.TheVariants.{BadFormat}
 use Rattle.cdc_event.specs.File.{IsFaulty}
 use Rattle.cdc_event.proofs.FilePieces.{misplaced, whole_fault, whole_event}
-use Rattle.cdc_cutter.proofs.whole.read_whole.Goals as goal
+use Rattle.cdc_cutter.proofs.whole.read_piece.Goals as goal
 
 pub returns-then-header-ne-FORMAT-clause-fault : goal.returns-then-header-ne-FORMAT-clause-fault
 returns-then-header-ne-FORMAT-clause-fault c = λ fault e.

@@ -10,7 +10,7 @@ pub(crate) const MAGIC: [u8; 4] = [254, 98, 105, 110];
 
 /// Where in its file a cutter stands.
 #[derive(Clone, Copy, Debug)]
-pub enum Stage {
+pub enum CutterState {
     /// At the file's start: its first four bytes aren't all there.
     Start,
     /// Behind the magic, where the first event begins.
@@ -22,15 +22,15 @@ pub enum Stage {
 }
 
 /// Passes the magic at a file's start, once it is there: where the bytes stand then.
-pub fn pass_magic(bytes: &mut Buffer) -> Stage
+pub fn pass_magic(bytes: &mut Buffer) -> CutterState
     ensures { PassesMagic bytes.old bytes.new result }
 {
     let Some(front) = bytes.bytes().first_chunk::<4>() else {
-        return Stage::Start;
+        return CutterState::Start;
     };
     if *front != MAGIC {
-        return Stage::Faulty(FileFault::BadMagic);
+        return CutterState::Faulty(FileFault::BadMagic);
     }
     bytes.advance(MAGIC.len());
-    Stage::First
+    CutterState::First
 }
