@@ -1,5 +1,3 @@
-mod KeptKeys
-mod Removal
 mod Worked
 mod WorkedEntries
 mod WorkedLogs

@@ -14,7 +14,7 @@ use Rattle.hex.specs.Hex.{encode_with}
 use Rattle.cdc_model.specs.declared.entry.EntryKind.{EntryKind}
 use Rattle.cdc_model.specs.declared.entry.EntryKind.TheVariants.{Prepare, OnePhase, Commit, Rollback, Plain, Beat}
 use Rattle.cdc_model.specs.declared.fault.SortFault.TheVariants.{DoublePrepare, UnknownBranch, Undercut}
-use Rattle.cdc_model.specs.declared.start.NodeLog.{NodeLog}
+use Rattle.cdc_model.specs.declared.node_log.NodeLog.{NodeLog}
 use Rattle.cdc_model.specs.Records.{Row, LogEntry, CommittedBranch, Transaction}
 use Rattle.cdc_model.specs.Start.{beginning, left}
 use Rattle.cdc_model.specs.Watermark.{node_low_water_mark}

@@ -9,7 +9,7 @@ use Rattle.cdc_model.specs.declared.entry.EntryKind.TheVariants.{Prepare, OnePha
 use Rattle.cdc_model.specs.declared.entry.Entry.TheInside.{Inside as InsideEntry}
 use Rattle.cdc_model.specs.declared.branch.Branch.TheInside.{Inside as InsideBranch}
 use Rattle.cdc_model.specs.declared.transaction.Txn.TheInside.{Inside as InsideTransaction}
-use Rattle.cdc_model.specs.declared.start.Opened.TheInside.{Inside as InsideOpened}
+use Rattle.cdc_model.specs.declared.opened.Opened.TheInside.{Inside as InsideOpened}
 use Rattle.cdc_model.specs.declared.start.StartingPoint.TheInside.{Inside as InsideStart}
 use Rattle.cdc_model.specs.declared.unit.Unit.TheInside.{Inside as InsideUnit}
 use Rattle.cdc_model.specs.Records.{Row, LogEntry, CommittedBranch, Transaction, OpenBranch, Start, OutputUnit}

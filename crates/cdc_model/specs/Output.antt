@@ -6,7 +6,7 @@ use Rattle.cdc_base.specs.declared.rename.Rename.{Rename}
 use Rattle.cdc_event.specs.declared.body.Body.TheVariants.{Format, Rotate}
 use Rattle.cdc_event.specs.Event.{magic}
 use Rattle.cdc_model.specs.declared.layout.Layout.{Layout}
-use Rattle.cdc_model.specs.declared.start.NodeLog.{NodeLog}
+use Rattle.cdc_model.specs.declared.node_log.NodeLog.{NodeLog}
 use Rattle.cdc_model.specs.Records.{Transaction}
 use Rattle.cdc_model.specs.Print.{digits, printed_event, printed_bytes, printed_length}
 use Rattle.cdc_model.specs.Transaction.{settled_transactions, oversized_transaction, first_key}

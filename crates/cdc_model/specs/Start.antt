@@ -1,6 +1,6 @@
 -- What entries leave behind them. A history is a list of entries, the newest first; it leaves the starting
 -- point of all that comes later, and the definitions of faults, water marks and branches read that alone.
-use Rattle.std.specs.Prelude.{◌≡◌, ◌++◌, take, drop, ℕ, ◌+◌, ◌==◌, ◌&&◌, not, max, Bool, List, [], ◌∷◌, if◌then◌else◌, nat_eq, filter, Option}
+use Rattle.std.specs.Prelude.{ℕ, ◌+◌, ◌==◌, ◌&&◌, not, max, Bool, List, [], ◌∷◌, if◌then◌else◌, nat_eq, filter, Option}
 use Rattle.std.specs.List.{find}
 use Rattle.std.specs.Ordering.{nat_cmp, on, then_cmp, is_lt}
 use Rattle.std.specs.Cmp.Lexicographic.{pointwise, slice_cmp}
@@ -63,11 +63,3 @@ next kind start =
 abbrev pub left : Start → List LogEntry → Start
 left start [] = start
 left start (entry ∷ earlier) = next entry.kind (left start earlier)
-
--- where a branch of an xid enters: its place splits the list as `enter` does
-abbrev pub IsPlaceFor : Xid → List OpenBranch → ℕ → Type 0
-IsPlaceFor xid opened place = (branch : OpenBranch) → branch.xid ≡ xid → enter branch opened ≡ take place opened ++ (branch ∷ drop place opened)
-
--- places before it are no place for an xid to enter
-abbrev pub IsPassed : Xid → List OpenBranch → ℕ → Type 0
-IsPassed xid opened place = (branch : OpenBranch) → branch.xid ≡ xid → enter branch opened ≡ take place opened ++ enter branch (drop place opened)

@@ -9,7 +9,7 @@ use Rattle.cdc_base.specs.declared.key.Key.{Key}
 use Rattle.cdc_base.specs.declared.key.Key.TheVariants.{Shared}
 use Rattle.cdc_base.specs.declared.rename.Rename.{Rename}
 use Rattle.cdc_base.specs.Key.{key_order}
-use Rattle.cdc_model.specs.declared.start.NodeLog.{NodeLog}
+use Rattle.cdc_model.specs.declared.node_log.NodeLog.{NodeLog}
 use Rattle.cdc_model.specs.Records.{CommittedBranch, Transaction}
 use Rattle.cdc_model.specs.Watermark.{node_low_water_mark, low_water_mark}
 use Rattle.cdc_model.specs.Soundness.{sound_history, reached}

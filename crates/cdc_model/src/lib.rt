@@ -1,30 +1,24 @@
-//! The definitions of the whole service, the laws above them, and the plain program that they are tried by.
+//! The definitions of the whole service, the laws above them, and the types that all layers share.
 //!
 //! The definitions stand in `specs/` (docs/DEFINITIONS.md reads them aloud). The types of the layers stand
-//! here: a log's entries, branches and transactions, each seen as a plain record. The plain program goes from
-//! the entries of all nodes to the transactions in global order; its contracts are the definitions, and every
-//! faster body is tried against it. Called by `cdc_writer` and `cdc_top`.
+//! here: a log's entries, branches and transactions, each seen as a plain record. Each law is a public function
+//! with an empty body that ensures it. Called by `cdc_plain`, `cdc_writer` and `cdc_top`.
 #![tactic(auto)]
 
 mod branch;
-mod committed;
 mod entry;
 mod fault;
 mod grammar_laws;
 mod laws;
 mod layout;
-mod open_branches;
-mod order;
+mod node_log;
+mod opened;
 mod rows;
-mod settled;
-mod soundness;
 mod start;
 mod transaction;
 mod unit;
-mod watermark;
 
 pub use branch::{Branch, BranchList};
-pub use committed::add_node_branches;
 pub use entry::{Entry, EntryKind, EntryList};
 pub use fault::{GroupFault, NodeFault, SortFault};
 pub use grammar_laws::{
@@ -38,11 +32,9 @@ pub use laws::{
     settled_fit, settled_is_exact, sound_is_longest, units_are_steps, units_make_files,
 };
 pub use layout::Layout;
-pub use order::{all_branches, first_key, ordered_transactions};
+pub use node_log::NodeLog;
+pub use opened::{OpenList, Opened};
 pub use rows::{RowList, share_rows};
-pub use settled::{KeyList, is_settled, settled_keys};
-pub use soundness::{entry_fault, reached, sound_count};
-pub use start::{NodeLog, OpenList, Opened, StartingPoint};
-pub use transaction::{Txn, TxnList};
+pub use start::StartingPoint;
+pub use transaction::{Txn, TxnList, first_key};
 pub use unit::Unit;
-pub use watermark::{low_water_mark, node_low_water_mark};

@@ -2,7 +2,7 @@
 use Rattle.std.proofs.Common.{◌≡◌, ℕ, zero, suc, get_or, ◌+◌, ◌-◌, ◌≤◌, ◌<◌, ◌⊎◌, Bool, true, false, IsTrue, List, [], ◌∷◌, length, inl, inr, arith, refl, sym, ap, ◌∙◌, subst, ⊎_elim}
 use Rattle.std.proofs.lemmas.Bool.{cases_lt}
 use Rattle.cdc_outside.specs.Count.{Rose}
-use Rattle.cdc_model.specs.declared.start.NodeLog.{NodeLog}
+use Rattle.cdc_model.specs.declared.node_log.NodeLog.{NodeLog}
 use Rattle.cdc_top.specs.declared.answer.Answer.{Answer}
 use Rattle.cdc_top.specs.declared.answer.Answer.TheVariants.{Done, Usage, NotYet, Read, Memory, Sink}
 use Rattle.cdc_top.specs.Answers.{status_of}

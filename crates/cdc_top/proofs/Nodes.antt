@@ -6,7 +6,7 @@ use Rattle.std.proofs.Math.Seq.{map-set_same}
 use Rattle.std.proofs.lemmas.Bool.{cases_eq, cases_lt}
 use Rattle.std.proofs.lemmas.List.{map-set, get_or-map, get_or-set_same, get_or-set_other, take_more, length-map}
 use Rattle.cdc_outside.specs.Count.{Rose}
-use Rattle.cdc_model.specs.declared.start.NodeLog.{NodeLog}
+use Rattle.cdc_model.specs.declared.node_log.NodeLog.{NodeLog}
 use Rattle.cdc_top.specs.declared.logs.LogsError.{LogsError}
 use Rattle.cdc_top.specs.declared.logs.LogsError.TheVariants.{Read, Memory, NotYet}
 use Rattle.cdc_top.specs.Thin.{IsThinLog, IsNotThin, AreThinLogs}

@@ -6,7 +6,7 @@ use Rattle.cdc_model.specs.Records.{Transaction}
 use Rattle.cdc_model.specs.Print.{printed_bytes, printed_length}
 use Rattle.cdc_model.specs.Transaction.{is_oversized, settled_transactions, ordered_transactions, first_key}
 use Rattle.cdc_model.specs.Output.{file_head, prints_at, prints_within, last_place, one_file, unrotated_file}
-use Rattle.cdc_model.specs.declared.start.NodeLog.{NodeLog}
+use Rattle.cdc_model.specs.declared.node_log.NodeLog.{NodeLog}
 use Rattle.cdc_top.specs.Small.{IsShortPrint, shown_file}
 
 -- where no item passes the test, all stand before the first that does

@@ -10,7 +10,7 @@ use Rattle.cdc_base.specs.declared.key.Key.TheVariants.{Shared}
 use Rattle.cdc_base.specs.Key.{key_order}
 use Rattle.cdc_model.specs.declared.entry.EntryKind.{EntryKind}
 use Rattle.cdc_model.specs.declared.entry.EntryKind.TheVariants.{Prepare, OnePhase, Commit, Rollback, Plain, Beat}
-use Rattle.cdc_model.specs.declared.start.NodeLog.{NodeLog}
+use Rattle.cdc_model.specs.declared.node_log.NodeLog.{NodeLog}
 use Rattle.cdc_model.specs.Records.{LogEntry, CommittedBranch, OpenBranch, Start}
 use Rattle.cdc_model.specs.Start.{find_open, next, left}
 use Rattle.cdc_model.specs.Soundness.{entry_fault, sound_entries, sound_history}

@@ -6,7 +6,7 @@ use Rattle.cdc_base.specs.declared.rename.Rename.{Rename}
 use Rattle.cdc_event.specs.declared.body.Body.{Body}
 use Rattle.cdc_event.specs.declared.body.Body.TheVariants.{XaPrepare}
 use Rattle.cdc_event.specs.Event.{FitsBody}
-use Rattle.cdc_model.specs.declared.start.NodeLog.{NodeLog}
+use Rattle.cdc_model.specs.declared.node_log.NodeLog.{NodeLog}
 use Rattle.cdc_model.specs.Records.{LogEntry, Transaction}
 use Rattle.cdc_model.specs.Print.{printed_length}
 use Rattle.cdc_model.specs.Transaction.{ordered_transactions, entries_in, first_key}

@@ -3,7 +3,7 @@ use Rattle.std.specs.Prelude.{◌≡◌, ℕ, ◌⊎◌, Bool, true, false, IsTr
 use Rattle.cdc_outside.specs.Count.{Rose}
 use Rattle.cdc_outside.specs.Sink.{WritesTo}
 use Rattle.std.specs.Prelude.{◌++◌}
-use Rattle.cdc_model.specs.declared.start.NodeLog.{NodeLog}
+use Rattle.cdc_model.specs.declared.node_log.NodeLog.{NodeLog}
 use Rattle.cdc_model.specs.Output.{unrotated_file}
 use Rattle.cdc_top.specs.declared.answer.Answer.{Answer}
 use Rattle.cdc_top.specs.declared.answer.Answer.TheVariants.{Done, Usage, NotYet, Read, Memory, Sink}

@@ -6,7 +6,7 @@ use Rattle.cdc_base.specs.declared.key.Key.{Key}
 use Rattle.cdc_base.specs.declared.key.Key.TheVariants.{Shared, Plain as PlainKey}
 use Rattle.cdc_model.specs.declared.entry.EntryKind.{EntryKind}
 use Rattle.cdc_model.specs.declared.entry.EntryKind.TheVariants.{Prepare, OnePhase, Commit, Rollback, Plain, Beat}
-use Rattle.cdc_model.specs.declared.start.NodeLog.{NodeLog}
+use Rattle.cdc_model.specs.declared.node_log.NodeLog.{NodeLog}
 use Rattle.cdc_model.specs.Print.{printed_length}
 use Rattle.cdc_model.specs.Output.{file_head, prints_at}
 use Rattle.cdc_writer.specs.Short.{HasNoRows, HasShortId}

@@ -13,7 +13,7 @@ use Rattle.cdc_query.specs.declared.verb.Verb.TheVariants.{XaStart, XaEnd, XaCom
 use Rattle.cdc_query.specs.Text.{canonical_text}
 use Rattle.cdc_model.specs.declared.entry.EntryKind.{EntryKind}
 use Rattle.cdc_model.specs.declared.entry.EntryKind.TheVariants.{Prepare, Commit}
-use Rattle.cdc_model.specs.declared.start.NodeLog.{NodeLog}
+use Rattle.cdc_model.specs.declared.node_log.NodeLog.{NodeLog}
 use Rattle.cdc_model.specs.Records.{LogEntry}
 use Rattle.cdc_model.specs.Start.{beginning}
 use Rattle.cdc_model.specs.Soundness.{sound_entries}

@@ -12,8 +12,9 @@ ghost use Rattle.cdc_top.specs.Printing.{HasWriteCause, IsFlushed};
 ghost use Rattle.cdc_top.specs.declared.print_file.WriteError.TheVariants.{Sink as SinkFailed, Memory as NoMemory};
 
 use cdc_base::{Buffer, Memory};
-use cdc_model::{NodeLog, Txn, first_key, ordered_transactions};
+use cdc_model::{NodeLog, Txn, first_key};
 use cdc_outside::{Failed, Sink};
+use cdc_plain::ordered_transactions;
 use cdc_rename::Names;
 use cdc_writer::{
     HEAD_LENGTH, PrintError, head_has_its_length, print, prints_have_their_length,
