@@ -13,6 +13,10 @@ held_files source = source.files.files.items
 abbrev pub lowest_of : MemSource → Option Place
 lowest_of source = source.files.lowest
 
+-- the greatest place behind what was asked for
+abbrev pub highest_of : MemSource → Option Place
+highest_of source = source.files.highest
+
 -- its calls so far
 abbrev pub calls_of : MemSource → Calls
 calls_of source = source.calls
@@ -23,3 +27,6 @@ pure_held_files source = source.files.files.items
 
 abbrev pub pure_lowest_of : PureSource → Option Place
 pure_lowest_of source = source.files.lowest
+
+abbrev pub pure_highest_of : PureSource → Option Place
+pure_highest_of source = source.files.highest

@@ -1,2 +1,3 @@
+mod Highest
 mod Lowest
 mod Piece

@@ -13,5 +13,5 @@ mod whole;
 
 pub use failed::Failed;
 pub use sink::Sink;
-pub use source::{Source, lowest_place};
+pub use source::{Source, highest_place, lowest_place};
 pub use whole::{ReadWholeError, read_whole};
