@@ -1,3 +1,5 @@
 pub mod Count
+pub mod Door
+pub mod Link
 pub mod Sink
 pub mod Source
