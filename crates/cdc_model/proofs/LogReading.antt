@@ -6,7 +6,7 @@ use Rattle.std.proofs.lemmas.List.{map-append}
 use Rattle.cdc_base.specs.declared.place.Place.{Place}
 use Rattle.cdc_event.specs.declared.fault.FileFault.{FileFault}
 use Rattle.cdc_event.specs.File.{PlacedEvent, EachIsRead, GrownFileContinues}
-use Rattle.cdc_event.specs.File.{EventsHaveOneReading as FilesHaveOneReading}
+use Rattle.cdc_event.specs.File.{FilesHaveOneReading}
 use Rattle.cdc_model.specs.declared.fault.NodeFault.{NodeFault}
 use Rattle.cdc_model.specs.declared.fault.NodeFault.TheVariants.{Group}
 use Rattle.cdc_model.specs.Records.{LogEntry}

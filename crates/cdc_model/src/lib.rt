@@ -38,7 +38,7 @@ pub use laws::{
     settled_fit, settled_is_exact, sound_is_longest, units_are_steps, units_make_files,
 };
 pub use layout::Layout;
-pub use order::{all_branches, first_key, ordered_transactions};
+pub use order::{all_branches, ordered_transactions};
 pub use rows::{RowList, share_rows};
 pub use settled::{KeyList, is_settled, settled_keys};
 pub use soundness::{entry_fault, reached, sound_count};

@@ -3,26 +3,18 @@
 ghost use Rattle.std.specs.Prelude.{◌≡◌, ◌≤◌, ◌++◌, ◌∷◌, take, drop, length, OnOk};
 ghost use Rattle.std.specs.List.{position_from};
 ghost use Rattle.std.specs.Option.{option_copied};
-ghost use Rattle.cdc_model.specs.Start.{same_xid, xid_order};
+ghost use Rattle.cdc_base.specs.Xid.{same_xid};
 ghost use Rattle.cdc_model.specs.Start as start;
 
 use crate::start::{OpenList, Opened};
-use cdc_base::{Memory, Xid};
-use std::cmp::Ordering;
-
-/// Whether two xids are the same.
-fn is_same(a: &Xid, b: &Xid) -> bool
-    ensures { result ≡ same_xid a.now b.now }
-{
-    a == b
-}
+use cdc_base::{Memory, Xid, same_xid, xid_cmp};
 
 /// The open branch of an xid, or none.
 pub fn find_open<'a>(opened: &'a [Opened], xid: &Xid) -> Option<&'a Opened>
     ensures { option_copied result ≡ start.find_open xid.now opened.now }
 {
     for branch in opened {
-        if is_same(xid, &branch.xid) {
+        if same_xid(xid, &branch.xid) {
             return Some(branch);
         }
     }
@@ -34,7 +26,7 @@ fn place_of(opened: &[Opened], xid: &Xid) -> Option<usize>
     ensures { result ≡ position_from (λ branch. same_xid xid.now branch.xid) 0 opened.now }
 {
     for (place, branch) in opened.iter().enumerate() {
-        if is_same(xid, &branch.xid) {
+        if same_xid(xid, &branch.xid) {
             return Some(place);
         }
     }
@@ -48,17 +40,6 @@ pub fn without(opened: &mut OpenList, xid: &Xid)
     while let Some(place) = place_of(opened.as_slice(), xid) {
         opened.remove(place);
     }
-}
-
-/// The order of xids: by global id, qualifier, format.
-fn xid_cmp(a: &Xid, b: &Xid) -> Ordering
-    ensures { result ≡ xid_order a.now b.now }
-{
-    a.gtrid
-        .bytes()
-        .cmp(b.gtrid.bytes())
-        .then(a.bqual.bytes().cmp(b.bqual.bytes()))
-        .then(a.format.cmp(&b.format))
 }
 
 /// The place of an xid among open branches in order.

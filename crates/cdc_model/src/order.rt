@@ -12,18 +12,8 @@ use crate::settled::settled_keys;
 use crate::start::NodeLog;
 use crate::transaction::{Txn, TxnList};
 use crate::watermark::low_water_mark;
-use cdc_base::{Gtrid, Key, Memory, key_cmp};
+use cdc_base::{Key, Memory, key_cmp};
 use std::alloc::Global;
-
-/// The key before all others.
-pub fn first_key() -> Key
-    ensures { result ≡ transaction.first_key }
-{
-    Key::Shared {
-        timestamp: 0,
-        gtrid: Gtrid::empty(),
-    }
-}
 
 /// The committed branches of all logs with keys above `last`, node 1 first.
 pub fn all_branches(alloc: Global, last: &Key, logs: &[NodeLog]) -> Result<BranchList, Memory>
