@@ -1,17 +1,21 @@
 //! Bytes that grow.
 
 ghost use Rattle.std.specs.Prelude.{◌≡◌, ◌≤◌, [], ◌++◌, length, take, drop, IfOk, OnOk, OnErr};
+ghost use Rattle.cdc_base.specs.Bytes.{AreBytes};
 
 use crate::blob::Blob;
 use crate::memory::Memory;
-use bytes::BytesMut;
-use std::alloc::Global;
+use bytes::Bytes;
+use std::alloc::{AllocFailed, Global};
 use std::marker::Model;
+use std::mem;
 
-/// Growing bytes, seen as the list of them.
+/// Growing bytes, seen as the list of them. They grow with no byte set before it is written, and are frozen
+/// with no copy.
 #[derive(Debug, Drop)]
 pub struct Buffer {
-    bytes: BytesMut,
+    alloc: Global,
+    bytes: Vec<u8>,
 }
 
 impl Model for Buffer {
@@ -28,7 +32,8 @@ impl Buffer {
         ensures { result ≡ [] }
     {
         Buffer {
-            bytes: BytesMut::new(alloc),
+            alloc,
+            bytes: Vec::new(alloc),
         }
     }
 
@@ -37,15 +42,18 @@ impl Buffer {
         ensures { IfOk result (λ buffer. buffer ≡ []) }
     {
         Ok(Buffer {
-            bytes: BytesMut::with_capacity(alloc, room)?,
+            alloc,
+            bytes: Vec::with_capacity(alloc, room)?,
         })
     }
 
     /// The bytes so far.
     pub fn bytes(&self) -> &[u8]
-        ensures { result.now ≡ self.now }
+        ensures value { result.now ≡ self.now }
+        ensures each { AreBytes self.now }
     {
-        self.bytes.as_slice()
+        let bytes = self.bytes.as_slice();
+        bytes
     }
 
     /// How many bytes there are.
@@ -80,28 +88,43 @@ impl Buffer {
         self.bytes.truncate(to);
     }
 
-    /// Drops the first `by` bytes.
+    /// Drops the first `by` bytes; those behind them move to the front.
     pub fn advance(&mut self, by: usize)
         requires { by ≤ length self.old }
         ensures { self.new ≡ drop by self.old }
     {
-        self.bytes.advance(by);
+        let left = self.bytes.len() - by;
+        self.bytes.rotate_left(by);
+        self.bytes.truncate(left);
     }
 
-    /// The first `to` bytes, to be shared; those behind them stay. On `Memory` nothing changes.
+    /// The first `to` bytes, to be shared, with no copy; those behind them are copied and stay. On `Memory`
+    /// nothing changes.
     pub fn freeze_to(&mut self, to: usize) -> Result<Blob, Memory>
         requires { to ≤ length self.old }
         ensures front { IfOk result (λ blob. blob ≡ take to self.old) }
         ensures rest { OnOk result (self.new ≡ drop to self.old) }
         ensures err { OnErr result (self.new ≡ self.old) }
     {
-        Ok(Blob::from_bytes(self.bytes.freeze_to(to)?))
+        let rest = Vec::from_slice(self.alloc, &self.bytes[to..])?;
+        let whole = mem::replace(&mut self.bytes, rest);
+        match Bytes::from_vec(whole) {
+            Ok(mut front) => {
+                front.truncate(to);
+                Ok(Blob::from_bytes(front))
+            }
+            Err(AllocFailed { value: whole }) => {
+                self.bytes = whole;
+                Err(Memory)
+            }
+        }
     }
 
-    /// The bytes, to be shared. On `Memory` the buffer is spent.
+    /// The bytes, to be shared, with no copy. On `Memory` the buffer is spent.
     pub fn freeze(self) -> Result<Blob, Memory>
         ensures { IfOk result (λ blob. blob ≡ self) }
     {
-        Ok(Blob::from_bytes(self.bytes.freeze()?))
+        let Buffer { alloc: _, bytes } = self;
+        Ok(Blob::from_bytes(Bytes::from_vec(bytes)?))
     }
 }
