@@ -22,3 +22,13 @@ mod GroupReading
 mod GroupOutcome
 mod LogReading
 mod Units
+mod Openings
+mod XidOrder
+mod CommitLaws
+mod FaultOrder
+mod Fronts
+mod OwnBranches
+mod FeedLaws
+mod EventLaws
+mod RestOfLog
+mod GrammarRows

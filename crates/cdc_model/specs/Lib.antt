@@ -14,3 +14,11 @@ pub mod Print
 pub mod Transaction
 pub mod Output
 pub mod Unit
+pub mod Openings
+pub mod Commits
+pub mod FirstFault
+pub mod SettledOrder
+pub mod Feed
+pub mod Advance
+pub mod ReadFrom
+pub mod GrammarRows

@@ -7,12 +7,15 @@
 
 mod branch;
 mod entry;
+mod entry_laws;
 mod fault;
 mod grammar_laws;
 mod laws;
 mod layout;
 mod node_log;
 mod opened;
+mod order_laws;
+mod reading_laws;
 mod rows;
 mod start;
 mod transaction;
@@ -20,6 +23,10 @@ mod unit;
 
 pub use branch::{Branch, BranchList};
 pub use entry::{Entry, EntryKind, EntryList};
+pub use entry_laws::{
+    each_commit_gives_one_branch, held_commit_gives_none, log_fault_is_first, one_entry_more,
+    open_branches_ascend, open_is_newest_prepare, sort_fault_is_first,
+};
 pub use fault::{GroupFault, NodeFault, SortFault};
 pub use grammar_laws::{
     continued_log_keeps_entries, each_log_has_entries, entries_are_read_in_one_way,
@@ -34,6 +41,14 @@ pub use laws::{
 pub use layout::Layout;
 pub use node_log::NodeLog;
 pub use opened::{OpenList, Opened};
+pub use order_laws::{
+    feeds_merge_to_order, later_feeds_go_on, lesser_mark_settles_a_front, same_branches_same_order,
+    seconds_are_the_firsts, settled_branches_go_on, settled_order_is_exact,
+};
+pub use reading_laws::{
+    misplaced_event_ends, one_event_more, one_rest, reading_begins, rest_of_log_is_read,
+    rows_are_of_tables_or_one_statement, start_reads_all, statements_are_read,
+};
 pub use rows::{RowList, share_rows};
 pub use start::StartingPoint;
 pub use transaction::{Txn, TxnList};

@@ -1,8 +1,5 @@
 //! Transactions in the global order.
 
-ghost use Rattle.std.specs.Prelude.{◌≡◌};
-
-
 use crate::branch::BranchList;
 use cdc_base::{Items, Key};
 use std::marker::Model;
