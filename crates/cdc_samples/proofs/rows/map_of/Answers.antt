@@ -1,5 +1,5 @@
-use Rattle.print_tests.proofs.Kept.{map_kept}
-use Rattle.print_tests.proofs.build.map_of.Goals as goal
+use Rattle.cdc_samples.proofs.Kept.{map_kept}
+use Rattle.cdc_samples.proofs.rows.map_of.Goals as goal
 
 pub returns-clause-row : goal.returns-clause-row
 returns-clause-row c =

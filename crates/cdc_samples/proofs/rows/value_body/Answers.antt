@@ -1,5 +1,5 @@
-use Rattle.print_tests.proofs.Kept.{value_kept}
-use Rattle.print_tests.proofs.build.value_body.Goals as goal
+use Rattle.cdc_samples.proofs.Kept.{value_kept}
+use Rattle.cdc_samples.proofs.rows.value_body.Goals as goal
 
 pub returns : goal.returns
 returns c = rw c.in_ok-bytes.ensures (value_kept c.args.bytes.now c.requires)

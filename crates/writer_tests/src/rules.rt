@@ -2,9 +2,9 @@
 
 ghost use Rattle.cdc_rename.specs.Names.{IsName};
 
-use crate::build::rule;
 use cdc_base::{Memory, Rename};
 use cdc_rename::Names;
+use cdc_samples::rules::rule;
 use std::alloc::Global;
 use std::process::Abort;
 use std::test::Fail;

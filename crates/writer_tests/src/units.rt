@@ -2,22 +2,17 @@
 
 ghost use Rattle.std.specs.Prelude.{◌<◌, ◌^◌};
 
-use crate::build::{has_room, no_branches, part, shared, transaction};
 use crate::samples::{BARE, CREATE, NEW_MAP, OLD_MAP, begins_with_head, renaming, transaction_of};
 use cdc_base::Key;
 use cdc_model::{Layout, Txn, Unit};
 use cdc_rename::Names;
+use cdc_samples::blobs::part;
+use cdc_samples::layouts::{NO_FILE, has_room};
+use cdc_samples::transactions::{no_branches, shared, transaction};
 use cdc_writer::{PrintError, unit};
 use std::alloc::Global;
 use std::process::Abort;
 use std::test::Fail;
-
-/// No file yet.
-const NO_FILE: Layout = Layout {
-    file: 0,
-    length: 0,
-    closed: false,
-};
 
 /// The print of the second of three transactions without rows, at place 241, and the event that closes its file.
 const SECOND: &[u8] = b"\x05\0\0\0\x02\x01\0\0\0\x26\0\0\0\x17\x01\0\0\0\0\

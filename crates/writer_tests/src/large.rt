@@ -4,14 +4,15 @@ ghost use Rattle.std.specs.Prelude.{◌≤◌, ◌^◌, IfOk};
 ghost use Rattle.std.specs.List.{AllByRecursion};
 ghost use Rattle.cdc_model.specs.Kept.{IsRow};
 
-use crate::build::{
-    add_branch, add_row, add_shared, no_branches, no_rows, part, printed, shared, transaction,
-    value_body, value_row,
-};
+use crate::printed::printed;
 use cdc_base::Memory;
 use cdc_event::Body;
 use cdc_model::{Layout, RowList, Txn};
 use cdc_rename::Names;
+use cdc_samples::blobs::part;
+use cdc_samples::layouts::NO_FILE;
+use cdc_samples::rows::{add_row, add_shared, no_rows, value_body, value_row};
+use cdc_samples::transactions::{add_branch, no_branches, shared, transaction};
 use cdc_writer::{PrintError, print_length, unit};
 use std::alloc::Global;
 use std::process::Abort;
@@ -21,7 +22,7 @@ use std::test::Fail;
 const LARGE: usize = (1 << 20) - 19;
 
 // The body of a row event of so many equal bytes.
-fn filled(alloc: Global, value: u8, count: usize) -> Result<Body, Memory>
+fn equal_body(alloc: Global, value: u8, count: usize) -> Result<Body, Memory>
     requires { count ≤ 2 ^ 20 }
     ensures { IfOk result (λ body. IsRow (30, body)) }
 {
@@ -34,7 +35,7 @@ fn add_large(alloc: Global, rows: &mut RowList) -> Result<(), Memory>
     requires { AllByRecursion IsRow rows.old }
     ensures { AllByRecursion IsRow rows.new }
 {
-    let large = filled(alloc, 7, LARGE)?;
+    let large = equal_body(alloc, 7, LARGE)?;
     add_shared(rows, &large, 255)
 }
 
@@ -46,7 +47,7 @@ fn large_rows(alloc: Global, last: usize) -> Result<RowList, Memory>
     let mut rows = no_rows(alloc);
     add_row(&mut rows, value_row(alloc, b"")?)?;
     add_large(alloc, &mut rows)?;
-    add_row(&mut rows, (30, filled(alloc, 9, last)?))?;
+    add_row(&mut rows, (30, equal_body(alloc, 9, last)?))?;
     Ok(rows)
 }
 
@@ -101,13 +102,6 @@ fn larger_is_refused(alloc: Global) -> Result<bool, PrintError> {
         Err(error) => Ok(error == refused && print_length(&txn, &names) == 268435457),
     }
 }
-
-/// No file yet.
-const NO_FILE: Layout = Layout {
-    file: 0,
-    length: 0,
-    closed: false,
-};
 
 // Whether a print of 2^28 bytes becomes a unit, behind the file's head.
 fn greatest_becomes_a_unit(alloc: Global) -> Result<bool, PrintError> {

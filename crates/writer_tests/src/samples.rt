@@ -2,13 +2,13 @@
 
 ghost use Rattle.cdc_model.specs.Kept.{IsKeptKey};
 
-use crate::build::{
-    add_branch, add_row, map_of, marked_row, no_branches, no_rows, part, rule, transaction,
-    value_row,
-};
 use cdc_base::{Key, Memory};
 use cdc_model::{BranchList, Txn};
 use cdc_rename::Names;
+use cdc_samples::blobs::part;
+use cdc_samples::rows::{add_row, marked_row, no_rows, one_row};
+use cdc_samples::rules::rule;
+use cdc_samples::transactions::{add_branch, no_branches, transaction};
 use std::alloc::Global;
 
 /// The print of a shared transaction without rows, at place 123.
@@ -53,17 +53,6 @@ pub fn begins_with_head(bytes: &[u8]) -> bool {
         && part(bytes, 79, 123) == HEAD_BACK
 }
 
-// A branch with a table map and a row event.
-fn add_rows(alloc: Global, branches: &mut BranchList, key: &Key) -> Result<(), Memory>
-    requires { IsKeptKey key.now }
-{
-    let mut rows = no_rows(alloc);
-    let map = map_of(alloc, b"d1", b"t1", COLUMNS)?;
-    add_row(&mut rows, (19, map))?;
-    add_row(&mut rows, value_row(alloc, VALUE)?)?;
-    add_branch(branches, key, rows)
-}
-
 // A branch with one marked text, unless the text is empty.
 fn add_text(alloc: Global, branches: &mut BranchList, key: &Key, text: &[u8]) -> Result<(), Memory>
     requires { IsKeptKey key.now }
@@ -93,7 +82,7 @@ pub fn transaction_of(
     add_text(alloc, &mut branches, key, second)?;
     add_text(alloc, &mut branches, key, third)?;
     if rows {
-        add_rows(alloc, &mut branches, key)?;
+        add_branch(&mut branches, key, one_row(alloc, VALUE)?)?;
     }
     Ok(transaction(number, key, branches))
 }

@@ -4,7 +4,7 @@
 
 ghost use Rattle.std.specs.Prelude.{◌≤◌};
 
-use crate::shown::{answer, from_hex};
+use crate::shown::answer;
 use std::alloc::{AllocError, Global};
 use std::process::Abort;
 use std::test::Fail;
@@ -94,7 +94,7 @@ fn check_rows(rt: &impl Abort, alloc: Global, table: &str, checksum: u8) -> Resu
         let shown = answer(
             alloc,
             kind.parse::<u8>()?,
-            from_hex(alloc, bytes)?.as_slice(),
+            hex::decode(alloc, bytes)?.as_slice(),
             checksum,
         )?;
         assert_eq!(rt; shown.as_str(), wanted, "{row}");

@@ -3,9 +3,9 @@
 ghost use Rattle.std.specs.Prelude.{IfOk};
 ghost use Rattle.cdc_event.specs.Event.{IsEvent};
 
-use crate::shown::{blob, from_hex};
 use cdc_base::{Blob, Buffer};
 use cdc_event::{Event, check_length, read_body, read_header, write_event};
+use cdc_samples::blobs::blob_of;
 use std::alloc::Global;
 use std::process::Abort;
 use std::test::Fail;
@@ -40,7 +40,7 @@ fn read(bytes: &Blob) -> Result<Event, Fail>
 }
 
 fn check_event(rt: &impl Abort, alloc: Global, bytes: &[u8]) -> Result<(), Fail> {
-    let event = read(&blob(alloc, bytes)?)?;
+    let event = read(&blob_of(alloc, bytes)?)?;
     assert_eq!(rt;
         event.body.encoded_length().saturating_add(19),
         bytes.len() as u64
@@ -58,7 +58,7 @@ fn check_event(rt: &impl Abort, alloc: Global, bytes: &[u8]) -> Result<(), Fail>
 #[test]
 fn each_vector_is_read_and_written_back(rt: HostRuntime) -> Result<(), Fail> {
     for row in EVENTS.lines() {
-        check_event(&rt, rt.alloc(), from_hex(rt.alloc(), row)?.as_slice())?;
+        check_event(&rt, rt.alloc(), hex::decode(rt.alloc(), row)?.as_slice())?;
     }
     Ok(())
 }

@@ -2,8 +2,8 @@
 
 ghost use Rattle.std.specs.Prelude.{◌≤◌};
 
-use crate::shown::header;
 use cdc_event::{EventFault, check_length};
+use cdc_samples::events::header;
 use std::test::Fail;
 
 /// Type, length, and the answers under settings 0 and 1.

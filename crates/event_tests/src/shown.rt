@@ -1,57 +1,13 @@
 //! What a reader answers, as a text.
 
-ghost use Rattle.std.specs.Prelude.{◌≡◌, ◌≤◌, ◌+◌, length, IfOk};
+ghost use Rattle.std.specs.Prelude.{◌≡◌, ◌≤◌, ◌+◌, length};
 ghost use Rattle.cdc_event.specs.Length.{HasGoodLength};
 
-use cdc_base::{Blob, Buffer, Memory};
-use cdc_event::{
-    Body, Event, EventFault, Header, ReadError, check_length, read_body, read_owned_body,
-};
+use cdc_base::Blob;
+use cdc_event::{Event, Header, ReadError, check_length, read_body, read_owned_body};
+use cdc_samples::blobs::blob_of;
+use cdc_samples::events::header;
 use std::alloc::{AllocError, Global};
-
-/// A blob of these bytes.
-pub fn blob(alloc: Global, bytes: &[u8]) -> Result<Blob, Memory>
-    ensures { IfOk result (λ blob. blob ≡ bytes.now) }
-{
-    let mut buffer = Buffer::new(alloc);
-    buffer.push(bytes)?;
-    buffer.freeze()
-}
-
-/// A header of this type and length.
-pub fn header(kind: u8, length: u32) -> Header
-    ensures { result.length ≡ length }
-{
-    Header {
-        seconds: 5,
-        kind,
-        server: 9,
-        length,
-        next: 0,
-        flags: 0x0021,
-    }
-}
-
-/// The bytes of a text in hexadecimal; what is no digit counts as 0.
-pub fn from_hex(alloc: Global, text: &str) -> Result<Vec<u8>, AllocError> {
-    let mut bytes = Vec::new(alloc);
-    let mut high = None;
-    for digit in text.bytes() {
-        let low = match digit {
-            b'0'..=b'9' => digit - b'0',
-            b'a'..=b'f' => digit - b'a' + 10,
-            _ => 0,
-        };
-        match high {
-            None => high = Some(low),
-            Some(high_digit) => {
-                bytes.push(u8::wrapping_add(u8::wrapping_mul(high_digit, 16), low))?;
-                high = None;
-            }
-        }
-    }
-    Ok(bytes)
-}
 
 // An event's body, or what is wrong.
 fn shown(alloc: Global, read: Result<Event, ReadError>) -> Result<String, AllocError> {
@@ -89,7 +45,7 @@ pub fn answer(alloc: Global, kind: u8, bytes: &[u8], checksum: u8) -> Result<Str
     if let Err(fault) = check_length(&header, checksum) {
         return shown(alloc, Err(ReadError::Fault(fault)));
     }
-    match blob(alloc, bytes) {
+    match blob_of(alloc, bytes) {
         Ok(body) if body.len() + 19 == header.length as usize => {
             read_both(alloc, &header, body, checksum)
         }

@@ -1,12 +1,15 @@
 //! Prints of small transactions.
 
-use crate::build::{map_of, no_branches, part, printed, shared, transaction};
+use crate::printed::printed;
 use crate::samples::{
     BARE, COLUMNS, CREATE, LONGER, NEW_MAP, NO_TEXT, OLD_MAP, OTHER, begins_with_head, renaming,
     transaction_of,
 };
 use cdc_base::{Buffer, Key, Memory};
 use cdc_rename::{Names, rename};
+use cdc_samples::blobs::part;
+use cdc_samples::rows::map_of;
+use cdc_samples::transactions::{no_branches, shared, transaction};
 use cdc_writer::{PrintError, print_length, write_head};
 use std::alloc::Global;
 use std::process::Abort;

@@ -1,7 +1,7 @@
 //! Where prints go.
 
-use crate::build::has_room;
 use cdc_model::Layout;
+use cdc_samples::layouts::has_room;
 use cdc_writer::{Spot, place};
 use std::process::Abort;
 use std::test::Fail;
