@@ -46,10 +46,11 @@ pub trait Door: Drop {
     fn back(&mut self, link: Self::L, end: u8)
         requires { IsTrue tells → length (served self.old) < length (handed self.old) }
         ensures served { IsTrue tells → served self.new ≡ served self.old ++ record {
-            input = Self.L.input link;
-            written = Self.L.written link;
-            faults = Self.L.faults link;
-            ending = end } ∷ [] }
+          input = Self.L.input link;
+          written = Self.L.written link;
+          faults = Self.L.faults link;
+          ending = end;
+        } ∷ [] }
         ensures handed { handed self.new ≡ handed self.old }
         ensures shut { shut self.new ≡ shut self.old }
         ensures faults { faults self.new ≡ faults self.old };
