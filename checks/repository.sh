@@ -25,7 +25,7 @@ below=$(awk -F: '
   END {
     for (n in line) {
       count = split(deps[n], each, " ")
-      for (i = 1; i <= count; i++) if (each[i] in own && own[each[i]] > n) print line[n] " lists " each[i] ", which stands below it"
+      for (i = 1; i <= count; i++) if (each[i] in own && own[each[i]] > n + 0) print line[n] " lists " each[i] ", which stands below it"
     }
   }' crates.txt)
 [ -z "$below" ] || fail "crates.txt: $below"

@@ -34,12 +34,15 @@ shut_of door = door.shut
 abbrev pub pure_waiting_of : PureDoor → List PureLink
 pure_waiting_of door = door.waiting.items
 
+-- the inputs of the links that a door without failing calls has given out
 abbrev pub pure_handed_of : PureDoor → List (List ℕ)
 pure_handed_of door = take door.given door.inputs.items
 
+-- the links that were handed back to a door without failing calls
 abbrev pub pure_served_of : PureDoor → List Served
 pure_served_of door = map pure_served_entry door.returned.items
 
+-- a door without failing calls has answered that it is closed
 abbrev pub pure_shut_of : PureDoor → Bool
 pure_shut_of door = door.shut
 
@@ -47,5 +50,6 @@ pure_shut_of door = door.shut
 pub served_few : (door : MemDoor) → length (served_of door) ≤ length (handed_of door)
 served_few door = omega (arith, door.returned_within, door.given_within, length-take door.given door.inputs.items, length-map door.returned.items served_entry)
 
+-- a door without failing calls has had back no more links than it gave out
 pub pure_served_few : (door : PureDoor) → length (pure_served_of door) ≤ length (pure_handed_of door)
 pure_served_few door = omega (arith, door.returned_within, door.given_within, length-take door.given door.inputs.items, length-map door.returned.items pure_served_entry)

@@ -27,5 +27,6 @@ pure_faults_of link = link.faults
 abbrev pub IsNewLink : MemLink → Type 0
 IsNewLink link = IsFresh (wire_input link.wire) (wire_left link.wire) (wire_written link.wire) link.calls.faults
 
+-- a link without failing calls that nothing was read from or written to
 abbrev pub IsNewPureLink : PureLink → Type 0
 IsNewPureLink link = IsFresh (wire_input link.wire) (wire_left link.wire) (wire_written link.wire) link.faults

@@ -15,6 +15,7 @@ served_entry returned = record {
   ending = returned.ending;
 }
 
+-- what is kept of a link without failing calls that is handed back
 abbrev pub pure_served_entry : Returned PureLink → Served
 pure_served_entry returned = record {
   input = wire_input returned.link.wire;
@@ -27,5 +28,6 @@ pure_served_entry returned = record {
 abbrev pub inputs_of : List MemLink → List (List ℕ)
 inputs_of links = map (λ link. wire_input link.wire) links
 
+-- the inputs of links without failing calls
 abbrev pub pure_inputs_of : List PureLink → List (List ℕ)
 pure_inputs_of links = map (λ link. wire_input link.wire) links

@@ -13,7 +13,8 @@ use Rattle.cdc_model.specs.declared.entry.EntryKind.{EntryKind}
 use Rattle.cdc_model.specs.declared.entry.EntryKind.TheVariants.{Prepare, OnePhase, Commit, Rollback, Plain, Beat}
 use Rattle.cdc_model.specs.declared.fault.SortFault.{SortFault}
 use Rattle.cdc_model.specs.Records.{Row, LogEntry, CommittedBranch, OpenBranch, Start}
-use Rattle.cdc_model.specs.Start.{same_xid, find_open, left}
+use Rattle.cdc_base.specs.Xid.{same_xid}
+use Rattle.cdc_model.specs.Start.{find_open, left}
 use Rattle.cdc_model.specs.Watermark.{high_water_mark}
 use Rattle.cdc_model.specs.Soundness.{undercut, when_open, entry_fault}
 use Rattle.cdc_model.specs.Branch.{Begun, committed, branch_of, begun_branches, is_new, new_branches}

@@ -2,7 +2,7 @@
 use Rattle.std.proofs.Common.{◌≡◌, ◌≤◌, ℕ, ◌+◌, min, inl, inr, Bool, true, false, cond, List, [], ◌∷◌, ◌++◌, append_assoc, append-nil, map, length, Contains, None, ap, sym, subst, refl, ◌∙◌, le_refl, arith}
 use Rattle.std.specs.List.{AllByRecursion, AllZip, flat_map, enumerate_from}
 use Rattle.cdc_base.specs.declared.key.Key.{Key}
-use Rattle.cdc_model.specs.declared.start.NodeLog.{NodeLog}
+use Rattle.cdc_model.specs.declared.node_log.NodeLog.{NodeLog}
 use Rattle.cdc_model.specs.Records.{CommittedBranch, Transaction}
 use Rattle.cdc_model.specs.Watermark.{least, low_water_mark, node_low_water_mark}
 use Rattle.cdc_model.specs.Soundness.{reached}

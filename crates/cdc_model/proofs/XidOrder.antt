@@ -13,7 +13,8 @@ use Rattle.cdc_base.specs.declared.xid.Xid.{Xid}
 use Rattle.cdc_model.specs.declared.entry.EntryKind.{EntryKind}
 use Rattle.cdc_model.specs.declared.entry.EntryKind.TheVariants.{Prepare, OnePhase, Commit, Rollback, Plain, Beat}
 use Rattle.cdc_model.specs.Records.{LogEntry, OpenBranch, Start}
-use Rattle.cdc_model.specs.Start.{same_xid, xid_order, without, enter, opened_by, left}
+use Rattle.cdc_base.specs.Xid.{same_xid, xid_order}
+use Rattle.cdc_model.specs.Start.{without, enter, opened_by, left}
 use Rattle.cdc_model.specs.Openings.{IsXidBelow, AscendByXid, OpenBranchesAscend}
 use Rattle.cdc_model.proofs.OpenBranches.{same_xid_laws}
 use Rattle.cdc_model.proofs.SameXid.{no_test, same_xid_is, xid_of}

@@ -2,7 +2,7 @@
 use Rattle.std.specs.Prelude.{◌≡◌, ◌≤◌, ℕ, Bool, true, false, List, [], ◌∷◌, ◌++◌, map, filter}
 use Rattle.std.specs.List.{AllByRecursion, AllZip, flat_map, enumerate_from}
 use Rattle.cdc_base.specs.declared.key.Key.{Key}
-use Rattle.cdc_model.specs.declared.start.NodeLog.{NodeLog}
+use Rattle.cdc_model.specs.declared.node_log.NodeLog.{NodeLog}
 use Rattle.cdc_model.specs.Records.{CommittedBranch, Transaction}
 use Rattle.cdc_model.specs.Watermark.{node_low_water_mark, low_water_mark}
 use Rattle.cdc_model.specs.Soundness.{reached}
@@ -32,6 +32,7 @@ pub record NodeFeed : Type 0 where
   pub branches : List CommittedBranch
   pub bound : ℕ
 
+-- the least of the bounds that nodes have told last
 abbrev pub least_bound : List NodeFeed → ℕ
 least_bound feeds = low_water_mark (map (λ (feed : NodeFeed). feed.bound) feeds)
 
@@ -73,6 +74,7 @@ pub record MergesTo (count : ℕ) (last : Key) (logs : List NodeLog) (feeds : Li
   pub front : IsFront (merged_transactions count feeds) (ordered_transactions count last logs)
   pub whole : AreToldOf logs feeds → merged_transactions count feeds ≡ ordered_transactions count last logs
 
+-- law: what the nodes have given merges to the global order
 abbrev pub FeedsMergeToOrder : Type 0
 FeedsMergeToOrder = (count : ℕ) (last : Key) (logs : List NodeLog) (feeds : List NodeFeed)
     → AreFeedsOf last logs feeds → MergesTo count last logs feeds

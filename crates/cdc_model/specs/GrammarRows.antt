@@ -14,6 +14,7 @@ use Rattle.cdc_model.specs.Print.{Statement, row_statement, branch_statement}
 use Rattle.cdc_model.specs.Sign.{is_other}
 use Rattle.cdc_model.specs.Entries.{AreLogEntries}
 
+-- a table map, or the body of a row event
 abbrev pub is_table_body : Body → Bool
 is_table_body (TableMap table flags db name rest) = true
 is_table_body (Rows bytes) = true

@@ -35,6 +35,7 @@ WroteAll call = (logs : List NodeLog) × AreThinLogs call.nodes logs × (call.ou
 abbrev pub WroteFront : PrintCall → Type 0
 WroteFront call = (logs : List NodeLog) × AreThinLogs call.nodes logs × WritesTo call.out_before (unrotated_file logs) call.out_now
 
+-- nothing was written
 abbrev pub WroteNothing : PrintCall → Type 0
 WroteNothing call = call.out_now ≡ call.out_before
 

@@ -22,12 +22,15 @@ IsSmallKind (Rollback xid) = Unit {0}
 IsSmallKind (Plain rows seconds) = rows ≡ []
 IsSmallKind (Beat timestamp) = Unit {0}
 
+-- an entry of a small kind
 abbrev pub IsSmallEntry : LogEntry → Type 0
 IsSmallEntry entry = IsSmallKind entry.kind
 
+-- an open branch without rows
 abbrev pub IsSmallOpen : OpenBranch → Type 0
 IsSmallOpen branch = branch.rows ≡ []
 
+-- a committed branch without rows and with a short id
 pub record IsSmallBranch (branch : CommittedBranch) : Type 0 where
   pub rows : branch.rows ≡ []
   pub key : HasShortId branch.key
