@@ -8,12 +8,12 @@ use bytes::Bytes;
 use std::alloc::Global;
 use std::marker::Model;
 
-// The bytes of shared bytes, each of which is one.
-fn plain(bytes: &Bytes) -> &[u8]
+// The same bytes, each of which is one.
+pub(crate) fn plain(bytes: &[u8]) -> &[u8]
     ensures value { result.now ≡ bytes.now }
     ensures each { AreBytes bytes.now }
 {
-    let plain = bytes.as_slice();
+    let plain = bytes;
     plain
 }
 
@@ -40,7 +40,7 @@ impl Blob {
     pub fn from_bytes(bytes: Bytes) -> Blob
         ensures { result ≡ bytes }
     {
-        let _bytes = plain(&bytes);
+        let _bytes = plain(bytes.as_slice());
         Blob { bytes }
     }
 
@@ -65,7 +65,7 @@ impl Blob {
         ensures value { result.now ≡ self.now }
         ensures each { AreBytes self.now }
     {
-        plain(&self.bytes)
+        plain(self.bytes.as_slice())
     }
 
     /// How many bytes there are.
@@ -96,7 +96,7 @@ impl Blob {
         ensures { self.new ≡ take length self.old }
     {
         self.bytes.truncate(length);
-        let _bytes = plain(&self.bytes);
+        let _bytes = plain(self.bytes.as_slice());
     }
 
     /// Drops the first `by` bytes.
@@ -105,7 +105,7 @@ impl Blob {
         ensures { self.new ≡ drop by self.old }
     {
         self.bytes.advance(by);
-        let _bytes = plain(&self.bytes);
+        let _bytes = plain(self.bytes.as_slice());
     }
 
     /// The same bytes, shared with this blob.

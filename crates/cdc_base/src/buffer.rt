@@ -3,7 +3,7 @@
 ghost use Rattle.std.specs.Prelude.{◌≡◌, ◌≤◌, [], ◌++◌, length, take, drop, IfOk, OnOk, OnErr};
 ghost use Rattle.cdc_base.specs.Bytes.{AreBytes};
 
-use crate::blob::Blob;
+use crate::blob::{Blob, plain};
 use crate::memory::Memory;
 use bytes::Bytes;
 use std::alloc::{AllocFailed, Global};
@@ -11,11 +11,13 @@ use std::marker::Model;
 use std::mem;
 
 /// Growing bytes, seen as the list of them. They grow with no byte set before it is written, and are frozen
-/// with no copy.
+/// with no copy; those that are dropped at the front make room for more.
 #[derive(Debug, Drop)]
 pub struct Buffer {
     alloc: Global,
     bytes: Vec<u8>,
+    // How many bytes at the front are dropped.
+    from: usize,
 }
 
 impl Model for Buffer {
@@ -23,7 +25,22 @@ impl Model for Buffer {
 
     ghost Value = { List ℕ };
 
-    ghost view = { λ buffer. buffer.bytes.items };
+    ghost use Rattle.std.specs.Prelude.{◌≤◌, length, drop};
+
+    ghost view = { λ buffer. drop buffer.from buffer.bytes.items };
+
+    ghost invariant = { λ buffer. buffer.from ≤ length buffer.bytes.items };
+}
+
+// Moves the bytes from `from` on to the front.
+#[tactic(auto, using(crate::proofs::Gaps::closed))]
+fn close_gap(bytes: &mut Vec<u8>, from: usize)
+    requires { from ≤ length bytes.old.items }
+    ensures { bytes.new.items ≡ drop from bytes.old.items }
+{
+    let length = bytes.len();
+    bytes.copy_within(from..length, 0);
+    bytes.truncate(length - from);
 }
 
 impl Buffer {
@@ -34,6 +51,7 @@ impl Buffer {
         Buffer {
             alloc,
             bytes: Vec::new(alloc),
+            from: 0,
         }
     }
 
@@ -44,6 +62,7 @@ impl Buffer {
         Ok(Buffer {
             alloc,
             bytes: Vec::with_capacity(alloc, room)?,
+            from: 0,
         })
     }
 
@@ -52,15 +71,14 @@ impl Buffer {
         ensures value { result.now ≡ self.now }
         ensures each { AreBytes self.now }
     {
-        let bytes = self.bytes.as_slice();
-        bytes
+        plain(&self.bytes[self.from..])
     }
 
     /// How many bytes there are.
     pub fn len(&self) -> usize
         ensures { result ≡ length self.now }
     {
-        self.bytes.len()
+        self.bytes.len() - self.from
     }
 
     /// Appends all bytes. On `Memory` nothing changes.
@@ -68,6 +86,11 @@ impl Buffer {
         ensures ok { OnOk result (self.new ≡ self.old ++ bytes.now) }
         ensures err { OnErr result (self.new ≡ self.old) }
     {
+        if self.from > self.bytes.len() - self.from {
+            // More is dropped than is left, so that each byte moves once at most.
+            close_gap(&mut self.bytes, self.from);
+            self.from = 0;
+        }
         self.bytes.extend_from_slice(bytes)?;
         Ok(())
     }
@@ -85,17 +108,15 @@ impl Buffer {
         requires { to ≤ length self.old }
         ensures { self.new ≡ take to self.old }
     {
-        self.bytes.truncate(to);
+        self.bytes.truncate(self.from + to);
     }
 
-    /// Drops the first `by` bytes; those behind them move to the front.
+    /// Drops the first `by` bytes.
     pub fn advance(&mut self, by: usize)
         requires { by ≤ length self.old }
         ensures { self.new ≡ drop by self.old }
     {
-        let left = self.bytes.len() - by;
-        self.bytes.rotate_left(by);
-        self.bytes.truncate(left);
+        self.from += by;
     }
 
     /// The first `to` bytes, to be shared, with no copy; those behind them are copied and stay. On `Memory`
@@ -106,11 +127,13 @@ impl Buffer {
         ensures rest { OnOk result (self.new ≡ drop to self.old) }
         ensures err { OnErr result (self.new ≡ self.old) }
     {
-        let rest = Vec::from_slice(self.alloc, &self.bytes[to..])?;
+        let rest = Vec::from_slice(self.alloc, &self.bytes[self.from + to..])?;
         let whole = mem::replace(&mut self.bytes, rest);
         match Bytes::from_vec(whole) {
             Ok(mut front) => {
+                front.advance(self.from);
                 front.truncate(to);
+                self.from = 0;
                 Ok(Blob::from_bytes(front))
             }
             Err(AllocFailed { value: whole }) => {
@@ -124,7 +147,13 @@ impl Buffer {
     pub fn freeze(self) -> Result<Blob, Memory>
         ensures { IfOk result (λ blob. blob ≡ self) }
     {
-        let Buffer { alloc: _, bytes } = self;
-        Ok(Blob::from_bytes(Bytes::from_vec(bytes)?))
+        let Buffer {
+            alloc: _,
+            bytes,
+            from,
+        } = self;
+        let mut bytes = Bytes::from_vec(bytes)?;
+        bytes.advance(from);
+        Ok(Blob::from_bytes(bytes))
     }
 }
