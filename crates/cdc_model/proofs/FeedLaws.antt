@@ -62,7 +62,7 @@ least_lower most more [] (high ∷ highs) h all = absurd all
 least_lower most more (low ∷ lows) [] h all = absurd all
 least_lower most more (low ∷ lows) (high ∷ highs) h (here, all) = least_lower (min most low) (min more high) lows highs (omega (arith, h, here)) all
 
-lowest_lower : (lows highs : List ℕ) → AllZip (λ (low high : ℕ). low ≤ high) lows highs → low_water_mark lows ≤ low_water_mark highs
+pub lowest_lower : (lows highs : List ℕ) → AllZip (λ (low high : ℕ). low ≤ high) lows highs → low_water_mark lows ≤ low_water_mark highs
 lowest_lower [] [] all = le_refl 0
 lowest_lower [] (high ∷ highs) all = absurd all
 lowest_lower (low ∷ lows) [] all = absurd all

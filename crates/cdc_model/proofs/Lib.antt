@@ -32,3 +32,5 @@ mod FeedLaws
 mod EventLaws
 mod RestOfLog
 mod GrammarRows
+mod SoundGrowth
+mod OutputGrowth

@@ -22,3 +22,4 @@ pub mod Feed
 pub mod Advance
 pub mod ReadFrom
 pub mod GrammarRows
+pub mod Growth

@@ -10,6 +10,7 @@ mod entry;
 mod entry_laws;
 mod fault;
 mod grammar_laws;
+mod growth_laws;
 mod laws;
 mod layout;
 mod node_log;
@@ -32,6 +33,10 @@ pub use grammar_laws::{
     continued_log_keeps_entries, each_log_has_entries, entries_are_read_in_one_way,
     events_have_entries, fitting_events_are_read, fronts_fit, log_has_one_entry_list,
     misfits_are_told, unfinished_item_is_one,
+};
+pub use growth_laws::{
+    continued_logs_grow, least_mark_rises, low_water_mark_rises, output_grows,
+    output_of_more_goes_on, settled_order_grows, sound_entries_grow, sound_prefix_grows,
 };
 pub use laws::{
     files_are_whole, grown_log_continues, log_prefix_is_an_order, mark_is_greatest, mark_is_least,
