@@ -1,2 +1,7 @@
+pub mod Blocks
 mod Lowest
+pub mod Moments
+pub mod Pending
 mod Piece
+pub mod Pieces
+pub mod Waiting

@@ -1,3 +1,4 @@
 pub mod Count
+pub mod Disk
 pub mod Sink
 pub mod Source
