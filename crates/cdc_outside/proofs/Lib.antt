@@ -1,3 +1,8 @@
+pub mod Blocks
 mod Highest
 mod Lowest
+pub mod Moments
+pub mod Pending
 mod Piece
+pub mod Pieces
+pub mod Waiting

@@ -1,4 +1,5 @@
 pub mod Count
+pub mod Disk
 pub mod Door
 pub mod Link
 pub mod Sink
