@@ -1,3 +1,3 @@
 mod Numerals
-mod Parts
+mod Items
 mod Readings

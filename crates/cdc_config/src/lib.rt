@@ -6,9 +6,11 @@
 #![tactic(auto)]
 
 mod command;
+mod keys;
 mod misfit;
 mod number;
 mod options;
+mod parts;
 mod plan;
 mod shape;
 mod tree;

@@ -1,7 +1,7 @@
 use Rattle.std.proofs.Common.{◌≡◌, drop}
 use Rattle.toml.specs.View.{items_view}
 use Rattle.cdc_config.specs.Tree.{each}
-use Rattle.cdc_config.proofs.Parts.{behind}
+use Rattle.cdc_config.proofs.Items.{behind}
 use Rattle.cdc_config.proofs.tree.each_of.Given as goal
 
 -- the parts so far, and what the values left give, are what all give
