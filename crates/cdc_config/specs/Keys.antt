@@ -124,10 +124,14 @@ names_of users = map (λ (user : User). user.name) users
 unfoldable pub users_from : Data → Option (List User)
 users_from root = option_and_then (λ users. if_passed (are_distinct (names_of users)) users) (listed (array_of 1 256 user_from) (get (codes "user") root))
 
+-- no two folders are equal, and none is taken
+abbrev pub are_streams : List (List ℕ) → List (List ℕ) → Bool
+are_streams taken folders = are_distinct folders && list_all (λ folder. not (is_among folder taken)) folders
+
 -- 2 to 16 distinct folders that aren't taken
 abbrev pub stream_folders : List (List ℕ) → Data → Option (List (List ℕ))
 stream_folders taken value =
-    option_and_then (λ folders. if_passed (are_distinct folders && list_all (λ folder. not (is_among folder taken)) folders) folders) (array_of 2 16 path_text value)
+    option_and_then (λ folders. if_passed (are_streams taken folders) folders) (array_of 2 16 path_text value)
 
 -- the table `split`: an out that there is, and folders
 abbrev pub split_table : ℕ → List (List ℕ) → Data → Option SplitPlan

@@ -152,8 +152,8 @@ pub fn task_of(alloc: Global, root: &Value, taken: &[Text]) -> Result<Text, Misf
     Ok(folder)
 }
 
-// At most 65,536 rules, or none where there is no such key.
-fn rules_of(alloc: Global, root: &Value) -> Result<RenameList, Misfit>
+/// At most 65,536 rules, or none where there is no such key.
+pub fn rules_of(alloc: Global, root: &Value) -> Result<RenameList, Misfit>
     ensures { Gives result (keys.listed (tree.array_of 0 65536 keys.rule_from) (get (codes "table") (view root.now))) }
 {
     match value_at(root, "table") {
@@ -190,9 +190,12 @@ fn user_tables(alloc: Global, root: &Value) -> Result<UserList, Misfit>
 fn is_named(name: &Text, users: &[User]) -> bool
     ensures { result ≡ tree.is_among name.now (keys.names_of users.now) }
 {
-    users
-        .iter()
-        .any(|user| name.bytes() == user.name.bytes())
+    for user in users {
+        if name.bytes() == user.name.bytes() {
+            return true;
+        }
+    }
+    false
 }
 
 // Whether no two users have one name.
@@ -221,13 +224,20 @@ fn are_free(texts: &[Text], taken: &[Text]) -> bool
     true
 }
 
+// Whether no two folders are equal, and none is taken.
+fn are_streams(folders: &[Text], taken: &[Text]) -> bool
+    ensures { result ≡ keys.are_streams taken.now folders.now }
+{
+    are_distinct(folders) && are_free(folders, taken)
+}
+
 // 2 to 16 folders, no two equal, that aren't taken.
 fn stream_folders(alloc: Global, value: &Value, taken: &[Text]) -> Result<TextList, Misfit>
     ensures folders { Gives result (keys.stream_folders taken.now (view value.now)) }
     ensures size { IfOk result (λ folders. IsWithin 2 16 (length folders)) }
 {
     let folders = array_of::<Text>(alloc, value, STREAMS_MIN, STREAMS_MAX)?;
-    if are_distinct(folders.as_slice()) && are_free(folders.as_slice(), taken) {
+    if are_streams(folders.as_slice(), taken) {
         Ok(folders)
     } else {
         Err(Misfit::Refused)
