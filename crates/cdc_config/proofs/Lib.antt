@@ -1,0 +1,3 @@
+mod Numerals
+mod Items
+mod Readings
