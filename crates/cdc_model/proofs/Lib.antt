@@ -36,3 +36,7 @@ mod RestOfLog
 mod GrammarRows
 mod SoundGrowth
 mod OutputGrowth
+mod Keeping
+mod RestartPoints
+mod RestartRest
+mod RestartAgain
