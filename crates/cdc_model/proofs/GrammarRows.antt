@@ -111,11 +111,11 @@ file_good bytes events fault (inr (inr (rest, is, are))) = events_good true 4 0 
 
 -- ---- parts of lists
 
-all_front : {X : Type 0} (P : X → Type 0) (front back : List X) → AllByRecursion P (front ++ back) → AllByRecursion P front
+pub all_front : {X : Type 0} (P : X → Type 0) (front back : List X) → AllByRecursion P (front ++ back) → AllByRecursion P front
 all_front P [] back all = tt
 all_front P (x ∷ front) back (here, all) = (here, all_front P front back all)
 
-all_back : {X : Type 0} (P : X → Type 0) (front back : List X) → AllByRecursion P (front ++ back) → AllByRecursion P back
+pub all_back : {X : Type 0} (P : X → Type 0) (front back : List X) → AllByRecursion P (front ++ back) → AllByRecursion P back
 all_back P [] back all = all
 all_back P (x ∷ front) back (here, all) = all_back P front back all
 

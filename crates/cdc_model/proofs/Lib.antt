@@ -34,3 +34,7 @@ mod RestOfLog
 mod GrammarRows
 mod SoundGrowth
 mod OutputGrowth
+mod Keeping
+mod RestartPoints
+mod RestartRest
+mod RestartAgain

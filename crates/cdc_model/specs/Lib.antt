@@ -23,3 +23,4 @@ pub mod Advance
 pub mod ReadFrom
 pub mod GrammarRows
 pub mod Growth
+pub mod Restart

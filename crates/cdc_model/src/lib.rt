@@ -17,6 +17,7 @@ mod node_log;
 mod opened;
 mod order_laws;
 mod reading_laws;
+mod restart_laws;
 mod rows;
 mod start;
 mod transaction;
@@ -53,6 +54,11 @@ pub use order_laws::{
 pub use reading_laws::{
     misplaced_event_ends, one_event_more, one_rest, reading_begins, rest_of_log_is_read,
     rows_are_of_tables_or_one_statement, start_reads_all, statements_are_read,
+};
+pub use restart_laws::{
+    latest_never_falls, one_latest_point, restart_place_reads_the_rest, restart_point_is_start,
+    restart_point_stays, restart_reads_the_rest, restarted_points_are_the_wholes,
+    start_is_restart_point,
 };
 pub use rows::{RowList, share_rows};
 pub use start::StartingPoint;
