@@ -25,10 +25,10 @@ calls_of source = source.calls
 abbrev pub pure_held_files : PureSource → List (List ℕ)
 pure_held_files source = source.files.files.items
 
--- the least place that a source without failing calls was asked for
+-- the least place that was asked of it
 abbrev pub pure_lowest_of : PureSource → Option Place
 pure_lowest_of source = source.files.lowest
 
--- the greatest place behind bytes that a source without failing calls was asked for
+-- the greatest place behind what was asked of it
 abbrev pub pure_highest_of : PureSource → Option Place
 pure_highest_of source = source.files.highest

@@ -1,8 +1,8 @@
 //! Sources in memory.
 
-ghost use Rattle.std.specs.Prelude.{◌≡◌, ◌≤◌, ◌<◌, ◌-◌, ◌^◌, IsTrue, false, true, refl, length, map, min, sum, None, IfOk, IsOk};
+ghost use Rattle.std.specs.Prelude.{◌≡◌, ◌≤◌, ◌<◌, ◌-◌, ◌^◌, false, true, refl, length, map, min, sum, None, IfOk, IsOk};
 ghost use Rattle.cdc_outside.specs.Count.{RisesOnErr};
-ghost use Rattle.cdc_outside.specs.Source.{behind, file_of, size_of, lowered, raised, ReadsFile};
+ghost use Rattle.cdc_outside.specs.Source.{behind, file_of, lowered, raised, ReadsFile};
 ghost use Rattle.cdc_memory.specs.Calls.{at_first, Counts};
 
 use crate::calls::CallPlan;

@@ -60,6 +60,16 @@ impl Log {
         }
     }
 
+    /// No byte, and room for so many.
+    pub fn with_room(alloc: Global, room: usize) -> Result<Log, Memory>
+        ensures { IfOk result (λ log. log ≡ []) }
+    {
+        Ok(Log {
+            alloc,
+            bytes: Buffer::with_room(alloc, room)?,
+        })
+    }
+
     /// The bytes.
     pub fn bytes(&self) -> &[u8]
         ensures value { result.now ≡ self.now }
