@@ -35,3 +35,7 @@ key_order = then_cmp (on timestamp_of nat_cmp) (then_cmp (on class_of nat_cmp) (
 -- keys tie exactly where all their parts are equal
 abbrev pub SameKey : Type 0
 SameKey = (a b : Key) → key_order a b ≡ Equal → a ≡ b
+
+-- the key before all others
+abbrev pub first_key : Key
+first_key = Shared 0 []

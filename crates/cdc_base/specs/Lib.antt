@@ -1,2 +1,4 @@
+pub mod Bytes
 pub mod Gtrid
 pub mod Key
+pub mod Xid

@@ -5,3 +5,4 @@ pub mod Length
 pub mod Reading
 pub mod File
 pub mod Laws
+pub mod View

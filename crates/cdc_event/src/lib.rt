@@ -11,8 +11,11 @@ mod header;
 pub mod kind;
 mod laws;
 mod number;
+mod offsets;
 mod reading;
 mod sharing;
+mod view;
+mod view_reading;
 mod writing;
 
 pub use body::Body;
@@ -24,4 +27,6 @@ pub use laws::{
     grown_file_continues, no_event_begins_another, rest_is_read, what_is_written_is_read,
 };
 pub use reading::{read_body, read_owned_body};
-pub use writing::write_event;
+pub use view::{BodyView, EventView};
+pub use view_reading::read_view;
+pub use writing::{header_array, write_body, write_event};

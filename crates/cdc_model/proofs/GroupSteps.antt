@@ -8,7 +8,7 @@ use Rattle.cdc_base.specs.declared.xid.Xid.{Xid}
 use Rattle.cdc_model.specs.declared.fault.GroupFault.{GroupFault}
 use Rattle.cdc_model.specs.declared.fault.GroupFault.TheVariants.{XidDiffers, NoTimestamp}
 use Rattle.cdc_model.specs.Records.{Row, LogEntry}
-use Rattle.cdc_model.specs.Start.{same_xid}
+use Rattle.cdc_base.specs.Xid.{same_xid}
 use Rattle.cdc_model.specs.Sign.{Sign, SignedEvent, Gtid, Quiet, Ddl, Marked, CommitTime, BeatTime, RowEvent, NumberEvent, PrepareEvent, BeginText, CommitText, RollbackText, SavepointText, XaStartText, XaEndText, XaCommitText, XaRollbackText, OtherText, is_quiet, is_gtid, is_silent, is_inner, is_unmarked, is_passed, row_of}
 use Rattle.cdc_model.specs.Group.{Says, rows_in, Content, TableRows, OneStatement, IsGroupBody, IsEndedXa, IsBegunLocal, IsStamp, IsNoEntry, IsItem, Progress, Out, Wait, Xa, End, Local, Reaches}
 use Rattle.cdc_model.specs.Misfit.{misfit, misfit_phase, unless_same}

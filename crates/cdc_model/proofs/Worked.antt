@@ -20,7 +20,8 @@ use Rattle.cdc_model.specs.Start.{beginning, left}
 use Rattle.cdc_model.specs.Watermark.{node_low_water_mark}
 use Rattle.cdc_model.specs.Soundness.{sort_fault}
 use Rattle.cdc_model.specs.Print.{digits, mark_text, statement_in}
-use Rattle.cdc_model.specs.Transaction.{logs_low_water_mark, settled_transactions, first_key, key_at}
+use Rattle.cdc_base.specs.Key.{first_key}
+use Rattle.cdc_model.specs.Transaction.{logs_low_water_mark, settled_transactions, key_at}
 use Rattle.cdc_model.specs.Output.{post_headers, file_head, file_name, rotate_event, layout_of, files_of, prints_within, unrotated_file}
 
 -- ---- notation

@@ -3,7 +3,7 @@ use Rattle.std.specs.Prelude.{◌==◌, ℕ, [], ◌∷◌, if◌then◌else◌,
 use Rattle.cdc_base.specs.declared.xid.Xid.{Xid}
 use Rattle.cdc_model.specs.declared.fault.GroupFault.{GroupFault}
 use Rattle.cdc_model.specs.declared.fault.GroupFault.TheVariants.{NoTimestamp, BadTimestamp, Statement, XidDiffers, RowsOutside, OutOfPlace, BadDdl}
-use Rattle.cdc_model.specs.Start.{same_xid}
+use Rattle.cdc_base.specs.Xid.{same_xid}
 use Rattle.cdc_model.specs.Sign.{Sign, Gtid, Quiet, Ddl, Marked, CommitTime, BeatTime, NoTime, RowEvent, NumberEvent, PrepareEvent, CommitText, RollbackText, SavepointText, XaStartText, XaEndText, XaCommitText, OtherText, Foreign}
 use Rattle.cdc_model.specs.Group.{Content, TableRows, OneStatement, Progress, Out, Wait, Xa, End, Local}
 

@@ -9,7 +9,8 @@ use Rattle.cdc_model.specs.declared.layout.Layout.{Layout}
 use Rattle.cdc_model.specs.declared.node_log.NodeLog.{NodeLog}
 use Rattle.cdc_model.specs.Records.{Transaction}
 use Rattle.cdc_model.specs.Print.{digits, printed_event, printed_bytes, printed_length}
-use Rattle.cdc_model.specs.Transaction.{settled_transactions, oversized_transaction, first_key}
+use Rattle.cdc_base.specs.Key.{first_key}
+use Rattle.cdc_model.specs.Transaction.{settled_transactions, oversized_transaction}
 
 -- the length of each type's post-header, types 1 to 38
 unfoldable pub post_headers : List ℕ

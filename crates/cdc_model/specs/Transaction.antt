@@ -8,7 +8,7 @@ use Rattle.std.specs.declared.cmp.Ordering.TheVariants.{Less, Equal, Greater}
 use Rattle.cdc_base.specs.declared.key.Key.{Key}
 use Rattle.cdc_base.specs.declared.key.Key.TheVariants.{Shared}
 use Rattle.cdc_base.specs.declared.rename.Rename.{Rename}
-use Rattle.cdc_base.specs.Key.{key_order}
+use Rattle.cdc_base.specs.Key.{key_order, first_key}
 use Rattle.cdc_model.specs.declared.node_log.NodeLog.{NodeLog}
 use Rattle.cdc_model.specs.Records.{CommittedBranch, Transaction}
 use Rattle.cdc_model.specs.Watermark.{node_low_water_mark, low_water_mark}
@@ -86,10 +86,7 @@ settled_transactions rules count last logs = before_first (is_oversized rules) (
 abbrev pub oversized_transaction : List Rename → ℕ → Key → List NodeLog → Option Transaction
 oversized_transaction rules count last logs = find (is_oversized rules) (ordered_transactions count last logs)
 
--- the key before all others, and that of the n-th transaction
-abbrev pub first_key : Key
-first_key = Shared 0 []
-
+-- the key of the n-th transaction, and before the first the key before all others
 abbrev pub key_or_first : Option Transaction → Key
 key_or_first None = first_key
 key_or_first (Some txn) = txn.key

@@ -36,5 +36,5 @@ pub use node_log::NodeLog;
 pub use opened::{OpenList, Opened};
 pub use rows::{RowList, share_rows};
 pub use start::StartingPoint;
-pub use transaction::{Txn, TxnList, first_key};
+pub use transaction::{Txn, TxnList};
 pub use unit::Unit;

@@ -1,10 +1,7 @@
 //! Transactions in the global order.
 
-ghost use Rattle.std.specs.Prelude.{◌≡◌};
-ghost use Rattle.cdc_model.specs.Transaction as transaction;
-
 use crate::branch::BranchList;
-use cdc_base::{Gtrid, Items, Key};
+use cdc_base::{Items, Key};
 use std::marker::Model;
 
 /// A transaction: its number in the global order (from 1), its key, the seconds of its first branch, and all
@@ -30,14 +27,4 @@ impl Model for Txn {
     ghost view = { transaction_seen };
 
     ghost invariant = { IsKeptTransaction };
-}
-
-/// The key before all others.
-pub fn first_key() -> Key
-    ensures { result ≡ transaction.first_key }
-{
-    Key::Shared {
-        timestamp: 0,
-        gtrid: Gtrid::empty(),
-    }
 }

@@ -4,7 +4,8 @@ use Rattle.std.specs.List.{position_from, remove}
 use Rattle.std.proofs.lemmas.List.Edits.{length-remove}
 use Rattle.cdc_base.specs.declared.xid.Xid.{Xid}
 use Rattle.cdc_model.specs.Records.{OpenBranch}
-use Rattle.cdc_model.specs.Start.{same_xid, without}
+use Rattle.cdc_base.specs.Xid.{same_xid}
+use Rattle.cdc_model.specs.Start.{without}
 
 -- a place that a search found, and what the others are without it
 pub record IsFound {X : Type 0} (test : X → Bool) (xs : List X) (from place : ℕ) : Type 0 where

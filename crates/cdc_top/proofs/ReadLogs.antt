@@ -9,7 +9,8 @@ use Rattle.cdc_event.specs.Event.{FitsBody}
 use Rattle.cdc_model.specs.declared.node_log.NodeLog.{NodeLog}
 use Rattle.cdc_model.specs.Records.{LogEntry, Transaction}
 use Rattle.cdc_model.specs.Print.{printed_length}
-use Rattle.cdc_model.specs.Transaction.{ordered_transactions, entries_in, first_key}
+use Rattle.cdc_base.specs.Key.{first_key}
+use Rattle.cdc_model.specs.Transaction.{ordered_transactions, entries_in}
 use Rattle.cdc_model.specs.Soundness.{IsCounted}
 use Rattle.cdc_model.specs.Output.{file_head, last_place, unrotated_file}
 use Rattle.cdc_writer.specs.Short.{HasNoRows, HasShortId}

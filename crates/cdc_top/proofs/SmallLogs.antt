@@ -14,7 +14,8 @@ use Rattle.cdc_model.specs.declared.entry.EntryKind.TheVariants.{Prepare, OnePha
 use Rattle.cdc_model.specs.declared.fault.SortFault.{SortFault}
 use Rattle.cdc_model.specs.declared.node_log.NodeLog.{NodeLog}
 use Rattle.cdc_model.specs.Records.{LogEntry, CommittedBranch, OpenBranch, Transaction, Start}
-use Rattle.cdc_model.specs.Start.{same_xid, xid_order, find_open, without, enter, opened_by, next, left}
+use Rattle.cdc_base.specs.Xid.{same_xid, xid_order}
+use Rattle.cdc_model.specs.Start.{find_open, without, enter, opened_by, next, left}
 use Rattle.cdc_model.specs.Soundness.{entry_fault, sound_entries, sound_history}
 use Rattle.cdc_model.specs.Branch.{Begun, committed, branch_of, begun_branches, is_new, new_branches, committed_branches, is_settled}
 use Rattle.cdc_model.specs.Transaction.{node_branches, all_branches, placed_key, put, add_settled, settled_keys, has_key, transaction_of, transactions_of, ordered_transactions, logs_low_water_mark}

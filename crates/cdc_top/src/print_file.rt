@@ -11,8 +11,8 @@ ghost use Rattle.cdc_top.specs.Small.{IsShortPrint, shown_file};
 ghost use Rattle.cdc_top.specs.Printing.{HasWriteCause, IsFlushed};
 ghost use Rattle.cdc_top.specs.declared.print_file.WriteError.TheVariants.{Sink as SinkFailed, Memory as NoMemory};
 
-use cdc_base::{Buffer, Memory};
-use cdc_model::{NodeLog, Txn, first_key};
+use cdc_base::{Buffer, Memory, first_key};
+use cdc_model::{NodeLog, Txn};
 use cdc_outside::{Failed, Sink};
 use cdc_plain::ordered_transactions;
 use cdc_rename::Names;

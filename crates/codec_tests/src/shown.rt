@@ -3,7 +3,7 @@
 ghost use Rattle.std.specs.Prelude.{◌≡◌, ◌≤◌, ◌+◌, length, IfOk};
 ghost use Rattle.cdc_event.specs.Length.{HasGoodLength};
 
-use cdc_base::{Blob, Buffer, Memory};
+use cdc_base::{Blob, Memory};
 use cdc_event::{
     Body, Event, EventFault, Header, ReadError, check_length, read_body, read_owned_body,
 };
@@ -13,9 +13,7 @@ use std::alloc::{AllocError, Global};
 pub fn blob(alloc: Global, bytes: &[u8]) -> Result<Blob, Memory>
     ensures { IfOk result (λ blob. blob ≡ bytes.now) }
 {
-    let mut buffer = Buffer::new(alloc);
-    buffer.push(bytes)?;
-    buffer.freeze()
+    Blob::copy_of(alloc, bytes)
 }
 
 /// A header of this type and length.

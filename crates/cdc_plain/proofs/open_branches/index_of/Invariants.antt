@@ -1,6 +1,6 @@
 use Rattle.std.proofs.Common.{◌≡◌, drop}
 use Rattle.std.specs.List.{position_from}
-use Rattle.cdc_model.specs.Start.{same_xid}
+use Rattle.cdc_base.specs.Xid.{same_xid}
 use Rattle.cdc_plain.proofs.open_branches.index_of.Given as goal
 
 -- what is left decides the answer

@@ -5,7 +5,7 @@ use Rattle.cdc_cutter.proofs.pending.Pending.look.Goals as goal
 
 pub returns-in_default : goal.returns-in_default
 returns-in_default c =
-    let seen : Sees c.args.checksum c.args.self.now.front c.look_at.result = subst (λ v. Sees c.args.checksum v c.look_at.result) c.bytes.ensures c.look_at.ensures in
+    let seen : Sees c.args.checksum c.args.self.now.front c.look_at.result = subst (λ v. Sees c.args.checksum v c.look_at.result) c.bytes.ensures.value c.look_at.ensures in
     record {
       bytes = refl;
       seen = sees_more c.args.checksum c.args.self.now.front c.args.self.now.tail c.look_at.result c.in_default.not-Unfinished seen;
