@@ -5,14 +5,15 @@ use Rattle.std.proofs.lemmas.Bool.{le-ltb, lt-leb}
 use Rattle.cdc_base.specs.declared.key.Key.{Key}
 use Rattle.cdc_base.specs.declared.key.Key.TheVariants.{Shared, Plain as PlainKey}
 use Rattle.cdc_base.specs.declared.rename.Rename.{Rename}
-use Rattle.cdc_model.specs.declared.start.NodeLog.{NodeLog}
+use Rattle.cdc_base.specs.Key.{first_key}
+use Rattle.cdc_model.specs.declared.node_log.NodeLog.{NodeLog}
 use Rattle.cdc_model.specs.Records.{CommittedBranch, Transaction}
 use Rattle.cdc_model.specs.Log.{Continues, IsLogPrefix}
 use Rattle.cdc_model.specs.Watermark.{low_water_mark, node_low_water_mark}
 use Rattle.cdc_model.specs.Soundness.{reached}
 use Rattle.cdc_model.specs.Branch.{is_settled}
 use Rattle.cdc_model.specs.Print.{printed_bytes, printed_length}
-use Rattle.cdc_model.specs.Transaction.{node_branches, all_branches, logs_low_water_mark, ordered_transactions, is_oversized, settled_transactions, oversized_transaction, first_key}
+use Rattle.cdc_model.specs.Transaction.{node_branches, all_branches, logs_low_water_mark, ordered_transactions, is_oversized, settled_transactions, oversized_transaction}
 use Rattle.cdc_model.specs.Output.{Output, no_output, output_with, output_after, file_head, file_begun, file_reached, rotate_event, open_file, files_in, files_of, last_place, prints_within, first_beyond, one_file, unrotated_file, some_or, beyond_the_file}
 use Rattle.cdc_model.specs.SettledOrder.{IsFront, transactions_under}
 use Rattle.cdc_model.specs.Feed.{NodeFeed, FeedGrows, merged_transactions, least_bound, fed_branches}

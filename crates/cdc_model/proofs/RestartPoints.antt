@@ -11,10 +11,11 @@ use Rattle.cdc_base.specs.declared.key.Key.TheVariants.{Shared, Plain as PlainKe
 use Rattle.cdc_base.specs.declared.xid.Xid.{Xid}
 use Rattle.cdc_base.specs.Key.{key_order}
 use Rattle.cdc_base.proofs.KeyOrder.{key_order_total, same_key}
+use Rattle.cdc_base.specs.Xid.{same_xid}
 use Rattle.cdc_model.specs.declared.entry.EntryKind.{EntryKind}
 use Rattle.cdc_model.specs.declared.entry.EntryKind.TheVariants.{Prepare, OnePhase, Commit, Rollback, Plain, Beat}
 use Rattle.cdc_model.specs.Records.{Row, LogEntry, OpenBranch, Start}
-use Rattle.cdc_model.specs.Start.{same_xid, find_open, opened_by, left}
+use Rattle.cdc_model.specs.Start.{find_open, opened_by, left}
 use Rattle.cdc_model.specs.Branch.{Begun, committed, branch_of, begun_branches}
 use Rattle.cdc_model.specs.Commits.{IsHeld, IsStart}
 use Rattle.cdc_model.specs.Openings.{IsXidBelow, AscendByXid}

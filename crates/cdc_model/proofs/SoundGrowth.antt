@@ -10,17 +10,18 @@ use Rattle.cdc_base.specs.declared.key.Key.TheVariants.{Shared, Plain as PlainKe
 use Rattle.cdc_base.specs.declared.place.Place.{Place}
 use Rattle.cdc_base.specs.declared.xid.Xid.{Xid}
 use Rattle.cdc_event.specs.File.{FilesHaveOneReading, GrownFileContinues}
+use Rattle.cdc_base.specs.Xid.{same_xid, xid_order}
 use Rattle.cdc_model.specs.declared.entry.EntryKind.{EntryKind}
 use Rattle.cdc_model.specs.declared.entry.EntryKind.TheVariants.{Prepare, OnePhase, Commit, Rollback, Plain, Beat}
 use Rattle.cdc_model.specs.declared.fault.NodeFault.{NodeFault}
 use Rattle.cdc_model.specs.declared.fault.NodeFault.TheVariants.{Sort}
 use Rattle.cdc_model.specs.declared.fault.SortFault.{SortFault}
 use Rattle.cdc_model.specs.declared.fault.SortFault.TheVariants.{Undercut}
-use Rattle.cdc_model.specs.declared.start.NodeLog.{NodeLog}
+use Rattle.cdc_model.specs.declared.node_log.NodeLog.{NodeLog}
 use Rattle.cdc_model.specs.Records.{LogEntry, CommittedBranch, OpenBranch, Start}
 use Rattle.cdc_model.specs.Log.{IsLogPrefix, AreLogPrefixes}
 use Rattle.cdc_model.specs.Entries.{AreLogEntries, LengthensLog}
-use Rattle.cdc_model.specs.Start.{beginning, same_xid, xid_order, find_open, without, enter, opened_by, next, left}
+use Rattle.cdc_model.specs.Start.{beginning, find_open, without, enter, opened_by, next, left}
 use Rattle.cdc_model.specs.Watermark.{least, node_low_water_mark}
 use Rattle.cdc_model.specs.Soundness.{undercut, unless_open, when_open, entry_fault, sound_entries, fault_or, sort_fault, sort_or, log_fault, sound_history, reached, AllSound}
 use Rattle.cdc_model.specs.Branch.{Begun, committed, branch_of, begun_branches, is_new, new_branches}

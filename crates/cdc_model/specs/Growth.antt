@@ -7,7 +7,7 @@ use Rattle.cdc_base.specs.declared.place.Place.{Place}
 use Rattle.cdc_base.specs.declared.rename.Rename.{Rename}
 use Rattle.cdc_model.specs.declared.fault.NodeFault.{NodeFault}
 use Rattle.cdc_model.specs.declared.fault.NodeFault.TheVariants.{Sort}
-use Rattle.cdc_model.specs.declared.start.NodeLog.{NodeLog}
+use Rattle.cdc_model.specs.declared.node_log.NodeLog.{NodeLog}
 use Rattle.cdc_model.specs.Records.{LogEntry, CommittedBranch, Transaction, Start}
 use Rattle.cdc_model.specs.Log.{Continues, IsLogPrefix, AreLogPrefixes}
 use Rattle.cdc_model.specs.Entries.{AreLogEntries, LengthensLog}

@@ -6,17 +6,17 @@ use Rattle.cdc_base.specs.declared.key.Key.{Key}
 use Rattle.cdc_base.specs.declared.place.Place.{Place}
 use Rattle.cdc_base.specs.declared.rename.Rename.{Rename}
 use Rattle.cdc_base.specs.declared.xid.Xid.{Xid}
-use Rattle.cdc_base.specs.Key.{key_order}
+use Rattle.cdc_base.specs.Key.{key_order, first_key}
 use Rattle.cdc_model.specs.declared.fault.NodeFault.{NodeFault}
 use Rattle.cdc_model.specs.declared.fault.NodeFault.TheVariants.{Sort}
-use Rattle.cdc_model.specs.declared.start.NodeLog.{NodeLog}
+use Rattle.cdc_model.specs.declared.node_log.NodeLog.{NodeLog}
 use Rattle.cdc_model.specs.Records.{LogEntry, OpenBranch, Start, Transaction}
 use Rattle.cdc_model.specs.Start.{left}
 use Rattle.cdc_model.specs.Watermark.{node_low_water_mark}
 use Rattle.cdc_model.specs.Soundness.{sound_entries, log_fault, reached}
 use Rattle.cdc_model.specs.Branch.{Begun, begun_branches}
 use Rattle.cdc_model.specs.Entries.{AreLogEntries}
-use Rattle.cdc_model.specs.Transaction.{node_branches, logs_low_water_mark, ordered_transactions, settled_transactions, oversized_transaction, first_key, key_at}
+use Rattle.cdc_model.specs.Transaction.{node_branches, logs_low_water_mark, ordered_transactions, settled_transactions, oversized_transaction, key_at}
 use Rattle.cdc_model.specs.Commits.{IsStart}
 use Rattle.cdc_model.specs.SettledOrder.{IsFront}
 use Rattle.cdc_model.specs.ReadFrom.{first_place, AreEntriesReadFrom}
