@@ -6,9 +6,14 @@
 #![tactic(auto)]
 
 mod calls;
+mod disk_files;
+mod disk_record;
 mod files;
+mod mem_disk;
+mod mem_file;
 mod sink;
 mod source;
 
+pub use mem_disk::MemDisk;
 pub use sink::MemSink;
 pub use source::{MemSource, PureSource};

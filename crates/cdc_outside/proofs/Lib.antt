@@ -1,4 +1,5 @@
 pub mod Blocks
+pub mod Changes
 mod Lowest
 pub mod Moments
 pub mod Pending

@@ -1,0 +1,2 @@
+pub mod DiskContents
+pub mod Replays
