@@ -66,11 +66,7 @@ impl MemFiles {
         ensures read { ReadsFile (file_of self.now.files.items file) at into.new result }
         ensures full { result ≡ min (length into.old) (length (file_of self.now.files.items file) - at) }
     {
-        let bytes = self.files[file as usize - 1].bytes();
-        let start = at.min(bytes.len() as u64) as usize;
-        let read = into.len().min(bytes.len() - start);
-        into[..read].copy_from_slice(&bytes[start..start + read]);
-        read
+        read_bytes(self.files[file as usize - 1].bytes(), at, into)
     }
 
     /// The least place that was asked for.
@@ -90,4 +86,15 @@ fn shared(alloc: Global, files: &[Blob]) -> Result<Vec<Blob>, Memory>
         held.push(file.share()?)?;
     }
     Ok(held)
+}
+
+/// Puts as many bytes at the front of `into` as it takes and a file of these bytes still has behind `at`.
+pub fn read_bytes(bytes: &[u8], at: u64, into: &mut [u8]) -> usize
+    ensures read { Reads bytes.now at into.new result }
+    ensures full { result ≡ min (length into.old) (length bytes.now - at) }
+{
+    let start = at.min(bytes.len() as u64) as usize;
+    let read = into.len().min(bytes.len() - start);
+    into[..read].copy_from_slice(&bytes[start..start + read]);
+    read
 }

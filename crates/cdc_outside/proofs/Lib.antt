@@ -1,4 +1,5 @@
 pub mod Blocks
+pub mod Changes
 mod Highest
 mod Lowest
 pub mod Moments
