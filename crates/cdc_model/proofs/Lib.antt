@@ -40,3 +40,4 @@ mod Keeping
 mod RestartPoints
 mod RestartRest
 mod RestartAgain
+mod RestartOrder
