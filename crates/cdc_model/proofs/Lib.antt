@@ -38,3 +38,4 @@ mod Keeping
 mod RestartPoints
 mod RestartRest
 mod RestartAgain
+mod RestartOrder

@@ -56,7 +56,8 @@ pub use reading_laws::{
     rows_are_of_tables_or_one_statement, start_reads_all, statements_are_read,
 };
 pub use restart_laws::{
-    latest_never_falls, one_latest_point, restart_place_reads_the_rest, restart_point_is_start,
+    latest_never_falls, one_latest_point, restart_gives_the_rest, restart_place_reads_the_rest,
+    restart_point_is_start,
     restart_point_stays, restart_reads_the_rest, restarted_points_are_the_wholes,
     start_is_restart_point,
 };

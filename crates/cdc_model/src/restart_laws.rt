@@ -1,7 +1,7 @@
 //! The laws of restart points: which points of a log are such, and what is read from there. Each function ensures its law,
 //! so that the check proves it.
 
-ghost use Rattle.cdc_model.specs.Restart.{StartIsRestartPoint, RestartPointStays, OneLatestPoint, LatestNeverFalls, RestartPointIsStart, RestartReadsTheRest, RestartPlaceReadsTheRest, RestartedPointsAreTheWholes};
+ghost use Rattle.cdc_model.specs.Restart.{StartIsRestartPoint, RestartPointStays, OneLatestPoint, LatestNeverFalls, RestartPointIsStart, RestartReadsTheRest, RestartPlaceReadsTheRest, RestartedPointsAreTheWholes, RestartGivesTheRest};
 
 use cdc_event::rest_is_read;
 
@@ -47,4 +47,10 @@ pub fn restart_place_reads_the_rest()
 /// the latest one.
 pub fn restarted_points_are_the_wholes()
     ensures { RestartedPointsAreTheWholes }
+{}
+
+/// A law: where each node's log is read from a restart point for the key of the n-th transaction, numbering from n gives the
+/// transactions behind the first n.
+pub fn restart_gives_the_rest()
+    ensures { RestartGivesTheRest }
 {}
