@@ -208,30 +208,39 @@ impl Log {
         self.push_event(30, body.bytes(), &[])
     }
 
-    /// `XA START`, rows where there is a value, `XA END`, and XA_PREPARE.
-    fn group(&mut self, one_phase: u8, id: &[u8], value: Option<u32>) -> Result<(), NotMade> {
-        self.statement(b"XA START", id, &[])?;
-        if let Some(value) = value {
-            self.rows(value)?;
-        }
+    /// `XA END` and XA_PREPARE.
+    fn ended(&mut self, one_phase: u8, id: &[u8]) -> Result<(), NotMade>
+        ensures { OnOk result (length self.new ≡ length self.old + 81 + 3 * length id.now) }
+    {
         self.statement(b"XA END", id, &[])?;
         self.prepared(one_phase, id, &[])
     }
 
     /// A branch without rows is prepared: 142 bytes where the id has 2.
-    pub fn prepare(&mut self, id: &[u8]) -> Result<(), NotMade> {
-        self.group(0, id, None)
+    pub fn prepare(&mut self, id: &[u8]) -> Result<(), NotMade>
+        ensures { OnOk result (length self.new ≡ length self.old + 132 + 5 * length id.now) }
+    {
+        self.statement(b"XA START", id, &[])?;
+        self.ended(0, id)
     }
 
     /// A branch with a row of this value is prepared: 217 bytes where the id has 2.
-    pub fn prepare_row(&mut self, id: &[u8], value: u32) -> Result<(), NotMade> {
-        self.group(0, id, Some(value))
+    pub fn prepare_row(&mut self, id: &[u8], value: u32) -> Result<(), NotMade>
+        ensures { OnOk result (length self.new ≡ length self.old + 207 + 5 * length id.now) }
+    {
+        self.statement(b"XA START", id, &[])?;
+        self.rows(value)?;
+        self.ended(0, id)
     }
 
     /// A branch with a row of this value is prepared and committed at once: 245 bytes where the id has 2.
-    pub fn one_phase(&mut self, id: &[u8], timestamp: u64, value: u32) -> Result<(), NotMade> {
+    pub fn one_phase(&mut self, id: &[u8], timestamp: u64, value: u32) -> Result<(), NotMade>
+        ensures { OnOk result (length self.new ≡ length self.old + 235 + 5 * length id.now) }
+    {
         self.timestamp(1, timestamp, &[])?;
-        self.group(1, id, Some(value))
+        self.statement(b"XA START", id, &[])?;
+        self.rows(value)?;
+        self.ended(1, id)
     }
 
     /// A branch is committed: 84 bytes where the id has 2.
@@ -256,13 +265,28 @@ impl Log {
         self.timestamp(2, timestamp, &[])
     }
 
-    /// A local transaction without rows, or with a row of this value: `BEGIN`, the row, and XID 1.
-    pub fn plain(&mut self, value: Option<u32>) -> Result<(), NotMade> {
-        self.query(b"BEGIN", &[])?;
-        if let Some(value) = value {
-            self.rows(value)?;
-        }
+    /// The XID event of number 1, alone.
+    pub fn xid(&mut self) -> Result<(), NotMade>
+        ensures { OnOk result (length self.new ≡ length self.old + 27) }
+    {
         self.push_event(kind::XID, &[1, 0, 0, 0, 0, 0, 0, 0], &[])
+    }
+
+    /// A local transaction without rows: `BEGIN`, and XID 1.
+    pub fn plain(&mut self) -> Result<(), NotMade>
+        ensures { OnOk result (length self.new ≡ length self.old + 65) }
+    {
+        self.query(b"BEGIN", &[])?;
+        self.xid()
+    }
+
+    /// A local transaction with a row of this value.
+    pub fn plain_row(&mut self, value: u32) -> Result<(), NotMade>
+        ensures { OnOk result (length self.new ≡ length self.old + 140) }
+    {
+        self.query(b"BEGIN", &[])?;
+        self.rows(value)?;
+        self.xid()
     }
 }
 

@@ -66,7 +66,7 @@ impl Log {
     /// | `S(g1)` `E(g1)` `R(g1)` `K(g1)` | `XA START`, `XA END`, XA_PREPARE, `XA COMMIT`, alone |
     /// | `T(10)` | a commit timestamp, alone |
     /// | `Q(COMMIT)` `D(DDL::d1::x)` | a query of this text, a text about rows; `_` is a blank |
-    /// | `W` | a table map and a row event of value 1 |
+    /// | `W` `X` | a table map and a row event of value 1, an XID event of number 1 |
     /// | `h(2,18)` | a header of this type and length, alone |
     /// | an even number of digits of base 16 | these bytes |
     ///
@@ -90,8 +90,8 @@ impl Log {
             "C" => self.commit(id, number_of(word.number)?),
             "A" => self.rollback(id),
             "B" => self.beat(number_of(word.id)?),
-            "L" => self.plain(None),
-            "Lr" => self.plain(Some(1)),
+            "L" => self.plain(),
+            "Lr" => self.plain_row(1),
             _ => self.push_single(alloc, word),
         }
     }
@@ -111,6 +111,7 @@ impl Log {
             "Q" => self.query(plain_text(alloc, word.text)?.bytes(), word.tail),
             "D" => self.marked(plain_text(alloc, word.text)?.bytes()),
             "W" => self.rows(1),
+            "X" => self.xid(),
             "h" => self.push_told(word),
             digits => self.push_bytes(alloc, digits),
         }
