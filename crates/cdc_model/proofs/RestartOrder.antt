@@ -10,14 +10,14 @@ use Rattle.std.proofs.lemmas.List.{length-map}
 use Rattle.std.proofs.lemmas.List.Elements.{filter-append}
 use Rattle.cdc_base.specs.declared.key.Key.{Key}
 use Rattle.cdc_base.specs.declared.rename.Rename.{Rename}
-use Rattle.cdc_base.specs.Key.{key_order}
+use Rattle.cdc_base.specs.Key.{key_order, first_key}
 use Rattle.cdc_base.proofs.KeyOrder.{key_order_total, same_key}
-use Rattle.cdc_model.specs.declared.start.NodeLog.{NodeLog}
+use Rattle.cdc_model.specs.declared.node_log.NodeLog.{NodeLog}
 use Rattle.cdc_model.specs.Records.{LogEntry, CommittedBranch, Start, Transaction}
 use Rattle.cdc_model.specs.Watermark.{low_water_mark, node_low_water_mark}
 use Rattle.cdc_model.specs.Soundness.{sound_entries, reached}
 use Rattle.cdc_model.specs.Branch.{Begun, is_new, new_branches, is_settled}
-use Rattle.cdc_model.specs.Transaction.{has_key, settled_keys, transaction_of, transactions_of, node_branches, all_branches, logs_low_water_mark, ordered_transactions, is_oversized, settled_transactions, oversized_transaction, first_key, key_or_first, key_at}
+use Rattle.cdc_model.specs.Transaction.{has_key, settled_keys, transaction_of, transactions_of, node_branches, all_branches, logs_low_water_mark, ordered_transactions, is_oversized, settled_transactions, oversized_transaction, key_or_first, key_at}
 use Rattle.cdc_model.specs.SettledOrder.{IsFront, transactions_under}
 use Rattle.cdc_model.specs.Feed.{own_branches}
 use Rattle.cdc_model.specs.Growth.{LogGrows, LogsGrow}
