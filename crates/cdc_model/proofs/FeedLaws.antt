@@ -110,7 +110,7 @@ fed_as_all mark committed feed from key settled =
     first_none (x ∷ xs) ys is = absurd (cc)
 
 -- further branches that a bound doesn't settle add none under a key that it settles
-unsettled_own : (bound : ℕ) (more : List CommittedBranch) (key : Key) → AllByRecursion (λ (branch : CommittedBranch). is_settled bound branch.key ≡ false) more
+pub unsettled_own : (bound : ℕ) (more : List CommittedBranch) (key : Key) → AllByRecursion (λ (branch : CommittedBranch). is_settled bound branch.key ≡ false) more
     → is_settled bound key ≡ true → own_branches more key ≡ []
 unsettled_own bound [] key all settled = refl
 unsettled_own bound (branch ∷ more) key (here, all) settled = by (has_key key branch) refl (unsettled_own bound more key all settled)

@@ -41,3 +41,7 @@ mod RestartPoints
 mod RestartRest
 mod RestartAgain
 mod RestartOrder
+mod OneFileEnd
+mod NodeFeeds
+mod WorkedLaws
+mod WorkedRestart

@@ -29,7 +29,7 @@ unsettled : (mark : ℕ) (key : Key) → LiesAbove mark key → is_settled mark 
 unsettled mark (Shared timestamp gtrid) above = lt-leb timestamp mark above
 unsettled mark (PlainKey timestamp node entry) above = le-ltb timestamp mark above
 
-all_unsettled : (mark : ℕ) (branches : List CommittedBranch) → AllByRecursion (λ (branch : CommittedBranch). LiesAbove mark branch.key) branches
+pub all_unsettled : (mark : ℕ) (branches : List CommittedBranch) → AllByRecursion (λ (branch : CommittedBranch). LiesAbove mark branch.key) branches
     → AllByRecursion (λ (branch : CommittedBranch). is_settled mark branch.key ≡ false) branches
 all_unsettled mark [] all = tt
 all_unsettled mark (branch ∷ branches) (here, all) = (unsettled mark branch.key here, all_unsettled mark branches all)
@@ -183,11 +183,11 @@ steps_grow rules rotation output (txn ∷ txns) =
 
 -- ---- the one file
 
-within_by : (at : ℕ) (txn : Transaction) (txns : List Transaction) (fits : Bool) → leb (at + printed_length [] txn) last_place ≡ fits
+pub within_by : (at : ℕ) (txn : Transaction) (txns : List Transaction) (fits : Bool) → leb (at + printed_length [] txn) last_place ≡ fits
     → prints_within at (txn ∷ txns) ≡ (if fits then printed_bytes [] txn at ++ prints_within (at + printed_length [] txn) txns else [])
 within_by at txn txns fits is = ap (λ (b : Bool). if b then printed_bytes [] txn at ++ prints_within (at + printed_length [] txn) txns else []) is
 
-beyond_by : (at : ℕ) (txn : Transaction) (txns : List Transaction) (fits : Bool) → leb (at + printed_length [] txn) last_place ≡ fits
+pub beyond_by : (at : ℕ) (txn : Transaction) (txns : List Transaction) (fits : Bool) → leb (at + printed_length [] txn) last_place ≡ fits
     → first_beyond at (txn ∷ txns) ≡ (if fits then first_beyond (at + printed_length [] txn) txns else Some txn)
 beyond_by at txn txns fits is = ap (λ (b : Bool). if b then first_beyond (at + printed_length [] txn) txns else Some txn) is
 

@@ -224,7 +224,7 @@ commit_above low xid key timestamp number seconds (Some branch) floors is sound 
     let least : low ≤ branch.floor = floors branch refl in
     (subst (LiesAbove low) (sym is) (omega (arith, least, more)), tt)
 
-entry_above : (low node : ℕ) (kind : EntryKind) (start : Start) → StaysAbove low start → entry_fault kind start ≡ None → AboveLow low (branch_of node kind start)
+pub entry_above : (low node : ℕ) (kind : EntryKind) (start : Start) → StaysAbove low start → entry_fault kind start ≡ None → AboveLow low (branch_of node kind start)
 entry_above low node (Prepare xid rows) start reaches sound = tt
 entry_above low node (OnePhase xid rows timestamp seconds) start reaches sound =
     (one_phase_above low xid (find_open xid start.opened) timestamp start.mark reaches.mark sound, tt)
@@ -268,7 +268,7 @@ sound_rest start [] rest sound = sound
 sound_rest start (entry ∷ front) rest (here, sound) =
     subst (λ (s : Start). AllSound s rest) (left_behind start entry front) (sound_rest (next entry.kind start) front rest sound)
 
-new_above : (low : ℕ) (last : Key) (start : Start) (begun : List Begun) → AboveLow low begun
+pub new_above : (low : ℕ) (last : Key) (start : Start) (begun : List Begun) → AboveLow low begun
     → AllByRecursion (λ (branch : CommittedBranch). LiesAbove low branch.key) (new_branches last start begun)
 new_above low last start [] all = tt
 new_above low last start (b ∷ begun) (here, all) = by (is_new last start b) (new_above low last start begun all)
