@@ -1,5 +1,5 @@
 -- The steps of a node's feed, and the order of what it gives.
-use Rattle.std.proofs.Common.{◌≡◌, ◌⊎◌, ◌≤◌, ◌<◌, ℕ, ◌+◌, inl, inr, leb, Bool, true, false, cond, ◌&&◌, List, [], ◌∷◌, ◌++◌, length, append_assoc, append-nil, map, filter, Contains, Option, Some, None, ap, sym, subst, refl, ◌∙◌, le_refl, arith}
+use Rattle.std.proofs.Common.{◌≡◌, ◌≤◌, ◌<◌, ℕ, ◌+◌, inl, inr, leb, Bool, true, false, cond, ◌&&◌, List, [], ◌∷◌, ◌++◌, append_assoc, append-nil, map, filter, Contains, Option, Some, None, ap, sym, subst, refl, ◌∙◌, le_refl, arith}
 use Rattle.std.specs.List.{AllByRecursion, flat_map}
 use Rattle.std.specs.List.Sorted.{IsStrictlySortedBy}
 use Rattle.std.specs.Ordering.{is_gt}
@@ -15,18 +15,17 @@ use Rattle.cdc_model.specs.declared.entry.EntryKind.TheVariants.{Prepare, OnePha
 use Rattle.cdc_model.specs.Records.{LogEntry, CommittedBranch, OpenBranch, Start}
 use Rattle.cdc_model.specs.Start.{find_open, left}
 use Rattle.cdc_model.specs.Watermark.{node_low_water_mark}
-use Rattle.cdc_model.specs.Soundness.{entry_fault}
 use Rattle.cdc_model.specs.Branch.{Begun, committed, branch_of, begun_branches, is_new, new_branches, committed_branches, is_settled}
 use Rattle.cdc_model.specs.Transaction.{has_key, settled_keys}
 use Rattle.cdc_model.specs.SettledOrder.{IsFront}
-use Rattle.cdc_model.specs.Feed.{own_branches, settled_branches, SameUnder, NodeFeed, FeedsFrom, FeedGrows}
-use Rattle.cdc_model.specs.NodeReading.{low_behind, node_settled, FeedsBehind, no_feed, feed_with, feed_told, FeedBegins, ReadsOn, FeedReadsOn, GivesOn, FeedGives, TellsOn, FeedTells, StandsBefore, StandInOrder, IsNodeOrder, NodeSettledInOrder}
+use Rattle.cdc_model.specs.Feed.{own_branches, settled_branches, SameUnder, NodeFeed, FeedsFrom}
+use Rattle.cdc_model.specs.NodeReading.{low_behind, FeedBegins, FeedReadsOn, FeedGives, FeedTells, StandsBefore, StandInOrder, NodeSettledInOrder}
 use Rattle.cdc_model.proofs.Members.{contains_first, contains_later, contains_none, contains_cases}
 use Rattle.cdc_model.proofs.KeyList.{not_below_itself, below_member}
 use Rattle.cdc_model.proofs.SettledKeys.{settled_sorted}
 use Rattle.cdc_model.proofs.CommitLaws.{one_entry_more}
 use Rattle.cdc_model.proofs.XidOrder.{all_filtered}
-use Rattle.cdc_model.proofs.GrammarRows.{all_both, all_front, all_back}
+use Rattle.cdc_model.proofs.GrammarRows.{all_both, all_back}
 use Rattle.cdc_model.proofs.Fronts.{front_same, front_on}
 use Rattle.cdc_model.proofs.OwnBranches.{has_is, settled_member, member_settled, settled_on, same_settled_keys, lesser_keys, settled_branches_go_on}
 use Rattle.cdc_model.proofs.FeedLaws.{unsettled_own}
@@ -281,10 +280,11 @@ module _ (last : Key) (start : Start) where
   ascend_append : (number : ℕ) (front back : List CommittedBranch) → AscendByEntry front → EntriesBelow number front
       → AllByRecursion (λ (branch : CommittedBranch). number ≤ branch.entry) back → AscendByEntry back → AscendByEntry (front ++ back)
   ascend_append number [] back ascend below from later = later
-  ascend_append number (branch ∷ front) back (first, ascend) (less, below) from later =
-      (all_both (λ (other : CommittedBranch). branch.entry < other.entry) front back first
-      (all_weaker (λ (other : CommittedBranch). number ≤ other.entry) (λ (other : CommittedBranch). branch.entry < other.entry) (λ other h. omega (arith, h, less)) back from),
-      ascend_append number front back ascend below from later)
+  ascend_append number (branch ∷ front) back (first, ascend) (less, below) from later = (
+    all_both (λ (other : CommittedBranch). branch.entry < other.entry) front back first
+        (all_weaker (λ (other : CommittedBranch). number ≤ other.entry) (λ (other : CommittedBranch). branch.entry < other.entry) (λ other h. omega (arith, h, less)) back from),
+    ascend_append number front back ascend below from later,
+  )
 
   committed_ascend : (node : ℕ) (history : List LogEntry) → AscendByEntry (committed_branches last start node history)
   committed_ascend node [] = tt

@@ -1,9 +1,9 @@
 -- The one file ends before the first print that it has no room for.
-use Rattle.std.proofs.Common.{◌≡◌, ◌≤◌, ◌<◌, ℕ, ◌+◌, leb, Bool, true, false, if◌then◌else◌, List, [], ◌∷◌, ◌++◌, length, length-append, Option, Some, None, MatchOption, ap, sym, subst, refl, ◌∙◌, arith}
+use Rattle.std.proofs.Common.{◌≡◌, ◌≤◌, ◌<◌, ℕ, ◌+◌, leb, Bool, true, false, List, [], ◌∷◌, ◌++◌, length, length-append, Option, Some, None, MatchOption, ap, sym, subst, refl, ◌∙◌, arith}
 use Rattle.std.proofs.lemmas.Bool.{leb-true, leb-false}
 use Rattle.cdc_model.specs.Records.{Transaction}
 use Rattle.cdc_model.specs.Print.{printed_bytes, printed_length}
-use Rattle.cdc_model.specs.Output.{prints_at, last_place, prints_within, first_beyond}
+use Rattle.cdc_model.specs.Output.{prints_at, last_place, first_beyond}
 use Rattle.cdc_model.specs.OneFile.{HasAll, EndsBefore, OneFileEnds}
 use Rattle.cdc_model.proofs.PrintLength.{length_printed}
 use Rattle.cdc_model.proofs.OutputGrowth.{within_by, beyond_by}

@@ -1,32 +1,32 @@
 -- Restart points of one node: the start is one, they stay, and there is a latest one.
-use Rattle.std.proofs.Common.{◌≡◌, ◌⊎◌, ◌≤◌, ◌<◌, ℕ, zero, suc, ◌+◌, ◌-◌, min, inl, inr, leb, Bool, true, false, not, cond, ◌&&◌, List, [], ◌∷◌, ◌++◌, length, length-append, append_assoc, append-nil, map, filter, take, drop, find, reverse, Option, Some, None, ap, sym, subst, refl, ◌∙◌, arith}
+use Rattle.std.proofs.Common.{◌≡◌, ◌≤◌, ◌<◌, ℕ, ◌+◌, ◌-◌, min, inl, inr, leb, Bool, true, false, cond, ◌&&◌, List, [], ◌∷◌, ◌++◌, length, length-append, map, filter, take, find, reverse, Option, Some, None, ap, sym, subst, refl, ◌∙◌, arith}
 use Rattle.std.specs.List.{AllByRecursion}
 use Rattle.std.specs.Ordering.{is_gt}
 use Rattle.std.specs.declared.cmp.Ordering.{Ordering}
 use Rattle.std.specs.declared.cmp.Ordering.TheVariants.{Less, Equal, Greater}
 use Rattle.std.proofs.lemmas.Bool.{cases_lt, leb-true, leb-false}
-use Rattle.std.proofs.lemmas.List.{reverse-append, length-reverse, take-append-le, take-append-drop, length-take}
+use Rattle.std.proofs.lemmas.List.{reverse-append, length-reverse, take-append-le, length-take}
 use Rattle.cdc_base.specs.declared.key.Key.{Key}
-use Rattle.cdc_base.specs.declared.key.Key.TheVariants.{Shared, Plain as PlainKey}
+use Rattle.cdc_base.specs.declared.key.Key.TheVariants.{Shared}
 use Rattle.cdc_base.specs.declared.xid.Xid.{Xid}
 use Rattle.cdc_base.specs.Key.{key_order}
 use Rattle.cdc_base.proofs.KeyOrder.{key_order_total, same_key}
 use Rattle.cdc_model.specs.declared.entry.EntryKind.{EntryKind}
 use Rattle.cdc_model.specs.declared.entry.EntryKind.TheVariants.{Prepare, OnePhase, Commit, Rollback, Plain, Beat}
-use Rattle.cdc_model.specs.Records.{Row, LogEntry, OpenBranch, Start}
-use Rattle.cdc_model.specs.Start.{same_xid, find_open, opened_by, left}
+use Rattle.cdc_model.specs.Records.{LogEntry, OpenBranch, Start}
+use Rattle.cdc_model.specs.Start.{same_xid, find_open, left}
 use Rattle.cdc_model.specs.Watermark.{least}
 use Rattle.cdc_model.specs.Branch.{Begun, committed, branch_of, begun_branches, is_new}
-use Rattle.cdc_model.specs.Commits.{IsHeld, IsStart}
+use Rattle.cdc_model.specs.Commits.{IsHeld}
 use Rattle.cdc_model.specs.Openings.{IsXidBelow, AscendByXid}
 use Rattle.cdc_model.specs.SettledOrder.{IsFront}
-use Rattle.cdc_model.specs.Restart.{RestartPoint, held_open, held_of, start_at, point_behind, point_before, IsAtMost, IsRestartEntry, IsRestartPoint, IsLatestPoint, latest_number, latest_point, SoundNumbersEnd, StartIsRestartPoint, RestartPointStays, OneLatestPoint, LatestNeverFalls, RestartPointIsStart}
+use Rattle.cdc_model.specs.Restart.{RestartPoint, held_open, held_of, start_at, point_behind, point_before, IsAtMost, IsRestartEntry, IsLatestPoint, latest_number, latest_point, SoundNumbersEnd, StartIsRestartPoint, RestartPointStays, OneLatestPoint, LatestNeverFalls, RestartPointIsStart}
 use Rattle.cdc_model.proofs.KeyList.{above, not_both_below}
 use Rattle.cdc_model.proofs.Marks.{numbers_count}
 use Rattle.cdc_model.proofs.SameXid.{no_test}
 use Rattle.cdc_model.proofs.GrammarRows.{all_both, all_front, all_back}
 use Rattle.cdc_model.proofs.XidOrder.{open_branches_ascend}
-use Rattle.cdc_model.proofs.Keeping.{all_next, all_weaker, number_grows}
+use Rattle.cdc_model.proofs.Keeping.{all_next, all_weaker}
 
 -- ---- keys that are at most another
 

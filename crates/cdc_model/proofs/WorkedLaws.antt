@@ -1,8 +1,6 @@
 -- Which branch is open, which fault comes first, whose seconds, and the output of small logs, worked out by hand.
-use Rattle.std.proofs.Common.{◌≡◌, ℕ, true, false, List, [], ◌∷◌, ◌++◌, length, refl, map, Option, Some, None, take, drop}
-use Rattle.std.specs.Prelude.{codes, reverse}
-use Rattle.cdc_base.specs.declared.key.Key.{Key}
-use Rattle.cdc_base.specs.declared.key.Key.TheVariants.{Shared, Plain as PlainKey}
+use Rattle.std.proofs.Common.{◌≡◌, ℕ, List, [], ◌∷◌, length, refl, map, Option, Some, None, take, drop}
+use Rattle.std.specs.Prelude.{reverse}
 use Rattle.cdc_base.specs.declared.place.Place.{Place}
 use Rattle.cdc_base.specs.declared.xid.Xid.{Xid}
 use Rattle.cdc_event.specs.Number.{low_first}
@@ -10,12 +8,12 @@ use Rattle.cdc_event.specs.Event.{header_bytes, body_bytes}
 use Rattle.cdc_event.specs.declared.fault.FileFault.TheVariants.{BadMagic}
 use Rattle.hex.specs.Hex.{encode_with}
 use Rattle.cdc_model.specs.declared.entry.EntryKind.{EntryKind}
-use Rattle.cdc_model.specs.declared.entry.EntryKind.TheVariants.{Prepare, OnePhase, Commit, Rollback, Plain, Beat}
+use Rattle.cdc_model.specs.declared.entry.EntryKind.TheVariants.{Prepare, Commit, Beat}
 use Rattle.cdc_model.specs.declared.fault.NodeFault.{NodeFault}
 use Rattle.cdc_model.specs.declared.fault.NodeFault.TheVariants.{File, Sort}
 use Rattle.cdc_model.specs.declared.fault.SortFault.TheVariants.{UnknownBranch}
 use Rattle.cdc_model.specs.declared.start.NodeLog.{NodeLog}
-use Rattle.cdc_model.specs.Records.{LogEntry, OpenBranch, Transaction}
+use Rattle.cdc_model.specs.Records.{OpenBranch, Transaction}
 use Rattle.cdc_model.specs.Start.{beginning, find_open, left}
 use Rattle.cdc_model.specs.Soundness.{log_fault}
 use Rattle.cdc_model.specs.Print.{digits, mark_text, statement_in}

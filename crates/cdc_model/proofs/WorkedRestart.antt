@@ -1,22 +1,20 @@
 -- Restart points of small logs and what is read from them, worked out by hand.
-use Rattle.std.proofs.Common.{◌≡◌, ℕ, ◌+◌, true, false, List, [], ◌∷◌, ◌++◌, length, refl, map, take, drop}
+use Rattle.std.proofs.Common.{◌≡◌, ℕ, List, [], ◌∷◌, ◌++◌, length, refl, map, take, drop}
 use Rattle.std.specs.Prelude.{reverse}
 use Rattle.cdc_base.specs.declared.key.Key.{Key}
 use Rattle.cdc_base.specs.declared.key.Key.TheVariants.{Shared, Plain as PlainKey}
-use Rattle.cdc_base.specs.declared.place.Place.{Place}
 use Rattle.cdc_event.specs.Number.{low_first}
 use Rattle.cdc_event.specs.Event.{header_bytes, body_bytes}
 use Rattle.hex.specs.Hex.{encode_with}
 use Rattle.cdc_model.specs.declared.entry.EntryKind.{EntryKind}
-use Rattle.cdc_model.specs.declared.entry.EntryKind.TheVariants.{Prepare, OnePhase, Commit, Rollback, Plain, Beat}
+use Rattle.cdc_model.specs.declared.entry.EntryKind.TheVariants.{Rollback, Plain, Beat}
 use Rattle.cdc_model.specs.declared.start.NodeLog.{NodeLog}
 use Rattle.cdc_model.specs.Records.{LogEntry, Transaction}
 use Rattle.cdc_model.specs.Start.{beginning}
-use Rattle.cdc_model.specs.Soundness.{sound_entries}
 use Rattle.cdc_model.specs.Print.{digits, mark_text, statement_in}
 use Rattle.cdc_model.specs.Transaction.{logs_low_water_mark, settled_transactions, first_key, key_at}
-use Rattle.cdc_model.specs.Output.{post_headers, file_head, file_name, rotate_event, expected_files, files_of, unrotated_file}
-use Rattle.cdc_model.specs.Restart.{RestartPoint, first_point, point_before, latest_number, latest_point, start_at, log_behind, logs_behind}
+use Rattle.cdc_model.specs.Output.{post_headers, file_head, file_name, rotate_event, expected_files, files_of}
+use Rattle.cdc_model.specs.Restart.{RestartPoint, first_point, point_before, latest_number, latest_point, start_at, logs_behind}
 use Rattle.cdc_model.proofs.Worked.{id, keys, prepare, commit}
 
 -- an entry of a file whose last event stands between two bytes, and the checksum setting behind it

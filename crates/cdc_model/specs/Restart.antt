@@ -10,7 +10,7 @@ use Rattle.cdc_base.specs.Key.{key_order}
 use Rattle.cdc_model.specs.declared.fault.NodeFault.{NodeFault}
 use Rattle.cdc_model.specs.declared.fault.NodeFault.TheVariants.{Sort}
 use Rattle.cdc_model.specs.declared.start.NodeLog.{NodeLog}
-use Rattle.cdc_model.specs.Records.{LogEntry, OpenBranch, Start, Transaction}
+use Rattle.cdc_model.specs.Records.{LogEntry, OpenBranch, Start}
 use Rattle.cdc_model.specs.Start.{left}
 use Rattle.cdc_model.specs.Watermark.{least, node_low_water_mark}
 use Rattle.cdc_model.specs.Soundness.{sound_entries, log_fault, reached}

@@ -44,8 +44,8 @@ pub use grammar_laws::{
     misfits_are_told, unfinished_item_is_one,
 };
 pub use growth_laws::{
-    continued_logs_grow, least_mark_rises, low_water_mark_rises, one_file_ends,
-    output_grows, output_of_more_goes_on, settled_order_grows, sound_entries_grow, sound_prefix_grows,
+    continued_logs_grow, least_mark_rises, low_water_mark_rises, one_file_ends, output_grows,
+    output_of_more_goes_on, settled_order_grows, sound_entries_grow, sound_prefix_grows,
 };
 pub use laws::{
     files_are_whole, grown_log_continues, log_prefix_is_an_order, mark_is_greatest, mark_is_least,
@@ -64,9 +64,8 @@ pub use reading_laws::{
 };
 pub use restart_laws::{
     latest_never_falls, one_latest_point, restart_gives_the_rest, restart_place_reads_the_rest,
-    restart_point_is_start,
-    restart_point_stays, restart_reads_the_rest, restarted_points_are_the_wholes,
-    sound_numbers_end, start_is_restart_point,
+    restart_point_is_start, restart_point_stays, restart_reads_the_rest,
+    restarted_points_are_the_wholes, sound_numbers_end, start_is_restart_point,
 };
 pub use rows::{RowList, share_rows};
 pub use settled::{KeyList, is_settled, settled_keys};
