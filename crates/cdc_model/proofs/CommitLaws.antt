@@ -9,17 +9,15 @@ use Rattle.cdc_base.specs.declared.key.Key.{Key}
 use Rattle.cdc_base.specs.declared.key.Key.TheVariants.{Shared, Plain as PlainKey}
 use Rattle.cdc_base.specs.declared.xid.Xid.{Xid}
 use Rattle.cdc_base.specs.Key.{key_order}
+use Rattle.cdc_base.specs.Xid.{same_xid}
 use Rattle.cdc_model.specs.declared.entry.EntryKind.{EntryKind}
 use Rattle.cdc_model.specs.declared.entry.EntryKind.TheVariants.{Prepare, OnePhase, Commit, Rollback, Plain, Beat}
 use Rattle.cdc_model.specs.declared.fault.SortFault.{SortFault}
-use Rattle.cdc_model.specs.Records.{Row, LogEntry, CommittedBranch, OpenBranch, Start}
-use Rattle.cdc_base.specs.Xid.{same_xid}
+use Rattle.cdc_model.specs.Records.{LogEntry, OpenBranch, Start}
 use Rattle.cdc_model.specs.Start.{find_open, left}
-use Rattle.cdc_model.specs.Watermark.{high_water_mark}
 use Rattle.cdc_model.specs.Soundness.{undercut, when_open, entry_fault}
 use Rattle.cdc_model.specs.Branch.{Begun, committed, branch_of, begun_branches, is_new, new_branches}
-use Rattle.cdc_model.specs.Openings.{SayNothingOf, StandsOpen}
-use Rattle.cdc_model.specs.Commits.{begun_with, IsCommitted, EachCommitGivesOneBranch, OneEntryMore, IsHeld, IsStart, HeldCommitGivesNone}
+use Rattle.cdc_model.specs.Commits.{begun_with, IsCommitted, EachCommitGivesOneBranch, OneEntryMore, IsHeld, HeldCommitGivesNone}
 use Rattle.cdc_model.proofs.Marks.{numbers_count}
 use Rattle.cdc_model.proofs.Openings.{open_is_newest_prepare, unsaid_history}
 
@@ -42,7 +40,7 @@ is_committed start node earlier (Commit xid timestamp seconds) here is number so
       branch,
       (open_is_newest_prepare start earlier xid branch).0 (ap (λ (s : Start). find_open xid s.opened) (sym is) ∙ found.1),
       ap (committed (Shared timestamp xid.gtrid) here.entry seconds) found.1
-      ∙ ap (λ (n : ℕ). begun_with branch.entry (Shared timestamp xid.gtrid) n seconds branch.rows ∷ []) number,
+          ∙ ap (λ (n : ℕ). begun_with branch.entry (Shared timestamp xid.gtrid) n seconds branch.rows ∷ []) number,
     )
 is_committed start node earlier (Rollback xid) here is number sound = refl
 is_committed start node earlier (Plain rows seconds) here is number sound =

@@ -1,10 +1,5 @@
 -- One event more, as the laws of the grammar state it.
-use Rattle.std.proofs.Common.{◌≡◌, inr, ℕ, List, [], ◌∷◌, ◌++◌, Option, Some, refl}
-use Rattle.cdc_event.specs.declared.fault.FileFault.{FileFault}
-use Rattle.cdc_model.specs.declared.fault.GroupFault.{GroupFault}
-use Rattle.cdc_model.specs.Records.{LogEntry}
-use Rattle.cdc_model.specs.Sign.{SignedEvent}
-use Rattle.cdc_model.specs.Group.{Progress}
+use Rattle.std.proofs.Common.{inr, refl}
 use Rattle.cdc_model.specs.Advance.{ReadingBegins, OneEventMore, MisplacedEventEnds}
 use Rattle.cdc_model.proofs.GroupReading.{reads_nothing, reads_next, told_misfits}
 
@@ -16,12 +11,17 @@ one_event_more file events entries progress next reads fits = reads_next file ev
 
 pub misplaced_event_ends : MisplacedEventEnds
 misplaced_event_ends file events behind entries progress next fault ended reads told =
-    inr (next, fault, record {
-      front = events;
-      behind = behind;
-      progress = progress;
-      events_in_order = refl;
-      reads = reads;
-      ceases = told_misfits file events entries progress next fault reads told;
-      kind = told;
-    }, refl)
+    inr (
+      next,
+      fault,
+      record {
+        front = events;
+        behind = behind;
+        progress = progress;
+        events_in_order = refl;
+        reads = reads;
+        ceases = told_misfits file events entries progress next fault reads told;
+        kind = told;
+      },
+      refl,
+    )

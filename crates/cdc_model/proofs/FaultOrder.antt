@@ -1,13 +1,12 @@
 -- The fault of entries is their first unsound one's.
-use Rattle.std.proofs.Common.{◌≡◌, ℕ, List, [], ◌∷◌, ◌++◌, reverse, Option, Some, None, MatchOption, ap, sym, subst, refl, ◌∙◌}
+use Rattle.std.proofs.Common.{◌≡◌, List, [], ◌∷◌, ◌++◌, reverse, Option, Some, None, MatchOption, ap, sym, refl, ◌∙◌}
 use Rattle.cdc_base.specs.declared.place.Place.{Place}
 use Rattle.cdc_model.specs.declared.fault.SortFault.{SortFault}
-use Rattle.cdc_model.specs.declared.fault.NodeFault.{NodeFault}
 use Rattle.cdc_model.specs.declared.fault.NodeFault.TheVariants.{Sort}
 use Rattle.cdc_model.specs.Records.{LogEntry, Start}
 use Rattle.cdc_model.specs.Start.{next, left}
-use Rattle.cdc_model.specs.Soundness.{entry_fault, AllSound, fault_or, sort_fault, sort_or, log_fault}
-use Rattle.cdc_model.specs.FirstFault.{IsFirstUnsound, SortFaultIsFirst, IsLogFault, LogFaultIsFirst}
+use Rattle.cdc_model.specs.Soundness.{entry_fault, AllSound, fault_or, sort_fault, sort_or}
+use Rattle.cdc_model.specs.FirstFault.{IsFirstUnsound, SortFaultIsFirst, LogFaultIsFirst}
 use Rattle.cdc_model.proofs.SoundFront.{left_behind}
 
 -- what a search for the first unsound entry has found

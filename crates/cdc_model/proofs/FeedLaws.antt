@@ -1,5 +1,5 @@
 -- What nodes have given, merged under the least of their bounds, is a front of the global order.
-use Rattle.std.proofs.Common.{◌≡◌, ◌≤◌, ℕ, ◌+◌, min, inl, inr, Bool, true, false, cond, List, [], ◌∷◌, ◌++◌, append_assoc, append-nil, map, length, Contains, None, ap, sym, subst, refl, ◌∙◌, le_refl, arith}
+use Rattle.std.proofs.Common.{◌≡◌, ◌≤◌, ℕ, ◌+◌, min, inl, inr, Bool, true, false, cond, List, [], ◌∷◌, ◌++◌, append_assoc, append-nil, map, Contains, ap, sym, subst, refl, ◌∙◌, le_refl, arith}
 use Rattle.std.specs.List.{AllByRecursion, AllZip, flat_map, enumerate_from}
 use Rattle.cdc_base.specs.declared.key.Key.{Key}
 use Rattle.cdc_model.specs.declared.node_log.NodeLog.{NodeLog}
@@ -8,11 +8,10 @@ use Rattle.cdc_model.specs.Watermark.{least, low_water_mark, node_low_water_mark
 use Rattle.cdc_model.specs.Soundness.{reached}
 use Rattle.cdc_model.specs.Branch.{is_settled}
 use Rattle.cdc_model.specs.Transaction.{has_key, first_seconds, transactions_of, settled_keys, node_branches, all_branches, logs_low_water_mark, ordered_transactions}
-use Rattle.cdc_model.specs.SettledOrder.{IsFront, transactions_under, SettledOrderIsExact, HasFirstSeconds, SecondsAreTheFirsts}
-use Rattle.cdc_model.specs.Feed.{own_branches, settled_branches, SameUnder, NodeFeed, least_bound, fed_branches, merged_transactions, FeedsFrom, FeedGrows, AreFeedsOf, AreToldOf, MergesTo, FeedsMergeToOrder, LaterFeedsGoOn}
-use Rattle.cdc_model.proofs.GlobalOrder.{keys_in, ordered, keys_kept}
+use Rattle.cdc_model.specs.SettledOrder.{transactions_under, SettledOrderIsExact, HasFirstSeconds, SecondsAreTheFirsts}
+use Rattle.cdc_model.specs.Feed.{own_branches, settled_branches, SameUnder, NodeFeed, least_bound, fed_branches, merged_transactions, FeedsFrom, FeedGrows, AreFeedsOf, AreToldOf, FeedsMergeToOrder, LaterFeedsGoOn}
+use Rattle.cdc_model.proofs.GlobalOrder.{ordered}
 use Rattle.cdc_model.proofs.Members.{contains_first, contains_later, contains_none, contains_cases}
-use Rattle.cdc_model.proofs.SettledKeys.{keys_of}
 use Rattle.cdc_model.proofs.SameXid.{no_test}
 use Rattle.cdc_model.proofs.Fronts.{front_same, front_on, nothing_behind}
 use Rattle.cdc_model.proofs.OwnBranches.{has_is, own_append, HasFirst, present_own, settled_member, settled_on, settled_as_all, same_branches_same_order, lesser_mark_settles_a_front}
@@ -110,7 +109,7 @@ fed_as_all mark committed feed from key settled =
     first_none (x ∷ xs) ys is = absurd (cc)
 
 -- further branches that a bound doesn't settle add none under a key that it settles
-unsettled_own : (bound : ℕ) (more : List CommittedBranch) (key : Key) → AllByRecursion (λ (branch : CommittedBranch). is_settled bound branch.key ≡ false) more
+pub unsettled_own : (bound : ℕ) (more : List CommittedBranch) (key : Key) → AllByRecursion (λ (branch : CommittedBranch). is_settled bound branch.key ≡ false) more
     → is_settled bound key ≡ true → own_branches more key ≡ []
 unsettled_own bound [] key all settled = refl
 unsettled_own bound (branch ∷ more) key (here, all) settled = by (has_key key branch) refl (unsettled_own bound more key all settled)

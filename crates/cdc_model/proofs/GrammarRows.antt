@@ -1,5 +1,5 @@
 -- The rows of entries are those of tables, or one statement.
-use Rattle.std.proofs.Common.{◌≡◌, ◌⊎◌, inl, inr, ℕ, ◌+◌, Bool, true, false, IsTrue, cond, ◌&&◌, ◌||◌, ◌==◌, nat_eq, List, [], ◌∷◌, ◌++◌, map, Option, Some, None, ap, sym, subst, refl, ◌∙◌, arith}
+use Rattle.std.proofs.Common.{◌≡◌, inl, inr, ℕ, ◌+◌, Bool, true, false, IsTrue, cond, ◌&&◌, ◌||◌, ◌==◌, nat_eq, List, [], ◌∷◌, ◌++◌, map, Option, Some, None, ap, sym, subst, refl, ◌∙◌, arith}
 use Rattle.std.specs.Prelude.{nat_le, codes}
 use Rattle.std.specs.List.{AllByRecursion, flat_map, filter_map, cons_option, starts_with}
 use Rattle.std.proofs.lemmas.Bool.Decides.{nat_tests}
@@ -20,8 +20,8 @@ use Rattle.cdc_model.specs.declared.entry.EntryKind.TheVariants.{Prepare, OnePha
 use Rattle.cdc_model.specs.declared.fault.NodeFault.{NodeFault}
 use Rattle.cdc_model.specs.Records.{Row, LogEntry}
 use Rattle.cdc_model.specs.Print.{Statement, statement_in, row_statement, branch_statement}
-use Rattle.cdc_model.specs.Sign.{Sign, SignedEvent, signed, Gtid, Quiet, Ddl, Marked, CommitTime, BeatTime, NoTime, RowEvent, NumberEvent, PrepareEvent, Foreign, is_other, is_ddl, sign_of_rows_query, sign_of_verb, sign_of_time, sign_of_skipped, sign_of_body, row_of}
-use Rattle.cdc_model.specs.Group.{Says, rows_in, Content, TableRows, OneStatement, rows_of, IsGroupBody, IsBegunXa, IsEndedXa, IsBegunLocal, IsEntryOf, IsItem, ReadsItems}
+use Rattle.cdc_model.specs.Sign.{Sign, SignedEvent, signed, Gtid, Quiet, Ddl, Marked, CommitTime, BeatTime, NoTime, RowEvent, Foreign, is_ddl, sign_of_rows_query, sign_of_verb, sign_of_time, sign_of_skipped, sign_of_body, row_of}
+use Rattle.cdc_model.specs.Group.{rows_in, Content, TableRows, OneStatement, rows_of, IsGroupBody, IsEndedXa, IsEntryOf, IsItem, ReadsItems}
 use Rattle.cdc_model.specs.Entries.{AreEntriesOfEvents, AreFileEntries, AreEntriesFrom}
 use Rattle.cdc_model.specs.GrammarRows.{is_table_body, IsTableRow, IsStatementRow, AreBranchRows, HasGrammarRows, RowsAreOfTablesOrOneStatement, ReadsStatements}
 

@@ -1,17 +1,16 @@
 -- What a reading keeps that begins at a restart point: all but the numbers and rows of the branches that are open there.
-use Rattle.std.proofs.Common.{◌≡◌, ◌≤◌, ◌<◌, ℕ, zero, suc, ◌+◌, min, leb, Bool, true, false, not, cond, if◌then◌else◌, List, [], ◌∷◌, ◌++◌, length, map, filter, find, reverse, Option, Some, None, is_none, ap, sym, subst, refl, ◌∙◌, arith}
+use Rattle.std.proofs.Common.{◌≡◌, ◌≤◌, ◌<◌, ℕ, ◌+◌, min, leb, Bool, true, false, not, cond, if◌then◌else◌, List, [], ◌∷◌, ◌++◌, map, Option, Some, None, is_none, ap, sym, refl, ◌∙◌, arith}
 use Rattle.std.specs.List.{AllByRecursion}
 use Rattle.std.specs.Option.{option_map}
 use Rattle.std.specs.Ordering.{is_lt}
 use Rattle.std.proofs.lemmas.Bool.{lt-leb, le-leb}
 use Rattle.cdc_base.specs.declared.xid.Xid.{Xid}
-use Rattle.cdc_base.specs.declared.place.Place.{Place}
 use Rattle.cdc_base.specs.Xid.{same_xid, xid_order}
 use Rattle.cdc_model.specs.declared.entry.EntryKind.{EntryKind}
 use Rattle.cdc_model.specs.declared.entry.EntryKind.TheVariants.{Prepare, OnePhase, Commit, Rollback, Plain, Beat}
 use Rattle.cdc_model.specs.declared.fault.SortFault.{SortFault}
 use Rattle.cdc_model.specs.Records.{Row, LogEntry, OpenBranch, Start}
-use Rattle.cdc_model.specs.Start.{stamp, find_open, without, enter, opened_by, next, left}
+use Rattle.cdc_model.specs.Start.{find_open, without, enter, opened_by, next, left}
 use Rattle.cdc_model.specs.Watermark.{least, node_low_water_mark}
 use Rattle.cdc_model.specs.Soundness.{undercut, unless_open, when_open, entry_fault, sound_entries, fault_or, sort_fault}
 use Rattle.cdc_model.specs.Restart.{RestartPoint, held_open, held_of, start_at, point_behind}

@@ -39,3 +39,7 @@ mod RestartPoints
 mod RestartRest
 mod RestartAgain
 mod RestartOrder
+mod OneFileEnd
+mod NodeFeeds
+mod WorkedLaws
+mod WorkedRestart

@@ -1,5 +1,5 @@
 -- The open branch of an xid is the one that its newest Prepare opened.
-use Rattle.std.proofs.Common.{◌≡◌, ◌⊎◌, ℕ, ◌+◌, inl, inr, Bool, true, false, not, cond, List, [], ◌∷◌, ◌++◌, length, filter, find, Option, Some, None, ap, sym, subst, refl, ◌∙◌, arith}
+use Rattle.std.proofs.Common.{◌≡◌, ℕ, inl, inr, Bool, true, false, not, cond, List, [], ◌∷◌, filter, find, Option, Some, None, ap, sym, subst, refl, ◌∙◌}
 use Rattle.std.specs.Ordering.{is_lt}
 use Rattle.cdc_base.specs.declared.xid.Xid.{Xid}
 use Rattle.cdc_model.specs.declared.entry.EntryKind.{EntryKind}
@@ -8,10 +8,10 @@ use Rattle.cdc_model.specs.Records.{Row, LogEntry, OpenBranch, Start}
 use Rattle.cdc_base.specs.Xid.{same_xid, xid_order}
 use Rattle.cdc_model.specs.Start.{find_open, without, enter, opened_by, left}
 use Rattle.cdc_model.specs.Watermark.{verdict}
-use Rattle.cdc_model.specs.Openings.{SayNothingOf, branch_opened, IsNewestPrepare, StandsOpen, OpenIsNewestPrepare}
+use Rattle.cdc_model.specs.Openings.{SayNothingOf, branch_opened, StandsOpen, OpenIsNewestPrepare}
 use Rattle.cdc_model.proofs.Marks.{numbers_count}
 use Rattle.cdc_model.proofs.OpenBranches.{same_xid_laws}
-use Rattle.cdc_model.proofs.SameXid.{no_test, same_xid_is}
+use Rattle.cdc_model.proofs.SameXid.{same_xid_is}
 use Rattle.cdc_model.proofs.SoundFront.{left_append}
 
 -- ---- what is found in a list with one element more, or with some fewer

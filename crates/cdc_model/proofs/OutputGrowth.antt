@@ -1,5 +1,5 @@
 -- The settled transactions of logs that go on, and the output files of more transactions.
-use Rattle.std.proofs.Common.{◌≡◌, ◌≤◌, ◌<◌, ℕ, ◌+◌, leb, Bool, true, false, if◌then◌else◌, List, [], ◌∷◌, ◌++◌, length, append_assoc, append-nil, map, find, Option, Some, None, ap, sym, subst, refl, ◌∙◌, arith}
+use Rattle.std.proofs.Common.{◌≡◌, ◌≤◌, ℕ, ◌+◌, leb, Bool, true, false, if◌then◌else◌, List, [], ◌∷◌, ◌++◌, length, append_assoc, append-nil, map, find, Option, Some, None, ap, sym, subst, refl, ◌∙◌}
 use Rattle.std.specs.List.{AllByRecursion, AllZip, flat_map, enumerate_from, before_first}
 use Rattle.std.proofs.lemmas.Bool.{le-ltb, lt-leb}
 use Rattle.cdc_base.specs.declared.key.Key.{Key}
@@ -13,11 +13,11 @@ use Rattle.cdc_model.specs.Watermark.{low_water_mark, node_low_water_mark}
 use Rattle.cdc_model.specs.Soundness.{reached}
 use Rattle.cdc_model.specs.Branch.{is_settled}
 use Rattle.cdc_model.specs.Print.{printed_bytes, printed_length}
-use Rattle.cdc_model.specs.Transaction.{node_branches, all_branches, logs_low_water_mark, ordered_transactions, is_oversized, settled_transactions, oversized_transaction}
-use Rattle.cdc_model.specs.Output.{Output, no_output, output_with, output_after, file_head, file_begun, file_reached, rotate_event, open_file, files_in, files_of, last_place, prints_within, first_beyond, one_file, unrotated_file, some_or, beyond_the_file}
+use Rattle.cdc_model.specs.Transaction.{node_branches, logs_low_water_mark, ordered_transactions, is_oversized, settled_transactions, oversized_transaction}
+use Rattle.cdc_model.specs.Output.{Output, no_output, output_with, output_after, file_head, file_begun, rotate_event, open_file, files_in, files_of, last_place, prints_within, first_beyond, one_file, some_or}
 use Rattle.cdc_model.specs.SettledOrder.{IsFront, transactions_under}
-use Rattle.cdc_model.specs.Feed.{NodeFeed, FeedGrows, merged_transactions, least_bound, fed_branches}
-use Rattle.cdc_model.specs.Growth.{LogGrows, LogsGrow, LiesAbove, MarkRises, LeastMarkRises, TransactionsGrow, SettledOrderGrows, OutputOfMore, OutputOfMoreGoesOn, OutputGrows, OutputOnlyGrows}
+use Rattle.cdc_model.specs.Feed.{NodeFeed, FeedGrows, merged_transactions, fed_branches}
+use Rattle.cdc_model.specs.Growth.{LogGrows, LogsGrow, LiesAbove, LeastMarkRises, SettledOrderGrows, OutputOfMoreGoesOn, OutputOnlyGrows}
 use Rattle.cdc_model.proofs.LogPrefix.{log_prefix_is_an_order, grown_log_continues}
 use Rattle.cdc_model.proofs.Files.{after_append}
 use Rattle.cdc_model.proofs.OrderCut.{first_passes, first_fails, found_at, found_later}
@@ -30,7 +30,7 @@ unsettled : (mark : ℕ) (key : Key) → LiesAbove mark key → is_settled mark 
 unsettled mark (Shared timestamp gtrid) above = lt-leb timestamp mark above
 unsettled mark (PlainKey timestamp node entry) above = le-ltb timestamp mark above
 
-all_unsettled : (mark : ℕ) (branches : List CommittedBranch) → AllByRecursion (λ (branch : CommittedBranch). LiesAbove mark branch.key) branches
+pub all_unsettled : (mark : ℕ) (branches : List CommittedBranch) → AllByRecursion (λ (branch : CommittedBranch). LiesAbove mark branch.key) branches
     → AllByRecursion (λ (branch : CommittedBranch). is_settled mark branch.key ≡ false) branches
 all_unsettled mark [] all = tt
 all_unsettled mark (branch ∷ branches) (here, all) = (unsettled mark branch.key here, all_unsettled mark branches all)
@@ -184,11 +184,11 @@ steps_grow rules rotation output (txn ∷ txns) =
 
 -- ---- the one file
 
-within_by : (at : ℕ) (txn : Transaction) (txns : List Transaction) (fits : Bool) → leb (at + printed_length [] txn) last_place ≡ fits
+pub within_by : (at : ℕ) (txn : Transaction) (txns : List Transaction) (fits : Bool) → leb (at + printed_length [] txn) last_place ≡ fits
     → prints_within at (txn ∷ txns) ≡ (if fits then printed_bytes [] txn at ++ prints_within (at + printed_length [] txn) txns else [])
 within_by at txn txns fits is = ap (λ (b : Bool). if b then printed_bytes [] txn at ++ prints_within (at + printed_length [] txn) txns else []) is
 
-beyond_by : (at : ℕ) (txn : Transaction) (txns : List Transaction) (fits : Bool) → leb (at + printed_length [] txn) last_place ≡ fits
+pub beyond_by : (at : ℕ) (txn : Transaction) (txns : List Transaction) (fits : Bool) → leb (at + printed_length [] txn) last_place ≡ fits
     → first_beyond at (txn ∷ txns) ≡ (if fits then first_beyond (at + printed_length [] txn) txns else Some txn)
 beyond_by at txn txns fits is = ap (λ (b : Bool). if b then first_beyond (at + printed_length [] txn) txns else Some txn) is
 
@@ -202,8 +202,8 @@ within_grows at (txn ∷ txns) rest = by (leb (at + printed_length [] txn) last_
     by true is (more, later) = (
       more,
       within_by at txn (txns ++ rest) true is ∙ ap (λ (bytes : List ℕ). printed_bytes [] txn at ++ bytes) later
-      ∙ sym (append_assoc (printed_bytes [] txn at) (prints_within (at + printed_length [] txn) txns) more)
-      ∙ ap (λ (bytes : List ℕ). bytes ++ more) (sym (within_by at txn txns true is)),
+          ∙ sym (append_assoc (printed_bytes [] txn at) (prints_within (at + printed_length [] txn) txns) more)
+          ∙ ap (λ (bytes : List ℕ). bytes ++ more) (sym (within_by at txn txns true is)),
     )
     by false is later = (
       [],
@@ -265,7 +265,7 @@ ends_stay old new front over later stays (Some other) is txn found =
 ends_stay old new front over later stays None is txn found =
     let kept = stays txn found in (
       ap (λ (list : List Transaction). some_or (first_beyond (length file_head) list) later) kept.1
-      ∙ ap (λ (o : Option Transaction). some_or o later) is ∙ kept.0,
+          ∙ ap (λ (o : Option Transaction). some_or o later) is ∙ kept.0,
       ap one_file kept.1,
     )
 

@@ -1,14 +1,12 @@
 -- The branches of each key, and the lists that have the same ones under a mark.
-use Rattle.std.proofs.Common.{◌≡◌, ◌⊎◌, ◌↔◌, ◌≤◌, ◌<◌, ℕ, ◌+◌, inl, inr, Bool, true, false, IsTrue, cond, List, [], ◌∷◌, ◌++◌, length, append-nil, append_assoc, map, filter, Contains, ap, sym, subst, refl, ◌∙◌, arith}
-use Rattle.std.specs.List.{AllByRecursion, flat_map}
+use Rattle.std.proofs.Common.{◌≡◌, ◌⊎◌, ◌≤◌, ◌<◌, ℕ, ◌+◌, inl, inr, Bool, true, false, IsTrue, cond, List, [], ◌∷◌, ◌++◌, length, append-nil, Contains, ap, sym, subst, refl, ◌∙◌, arith}
+use Rattle.std.specs.List.{flat_map}
 use Rattle.std.specs.List.Sorted.{IsStrictlySortedBy}
 use Rattle.std.specs.Ordering.{nat_cmp, ordering_then, ordering_reverse, is_eq}
-use Rattle.std.specs.Cmp.Lexicographic.{slice_cmp}
 use Rattle.std.specs.declared.cmp.Ordering.{Ordering}
 use Rattle.std.specs.declared.cmp.Ordering.TheVariants.{Less, Equal, Greater}
 use Rattle.std.proofs.lemmas.Bool.{leb-true, leb-false, ltb-true, ltb-false, le-leb, lt-ltb, cases_lt}
 use Rattle.std.proofs.lemmas.Bool.Decides.{nat_tests}
-use Rattle.std.proofs.lemmas.Grind.{flat_map-append}
 use Rattle.std.proofs.lemmas.List.Elements.{filter-append}
 use Rattle.cdc_base.specs.declared.key.Key.{Key}
 use Rattle.cdc_base.specs.declared.key.Key.TheVariants.{Shared, Plain as PlainKey}
@@ -17,13 +15,13 @@ use Rattle.cdc_base.proofs.KeyOrder.{key_order_total, same_key}
 use Rattle.cdc_model.specs.Records.{CommittedBranch, Transaction}
 use Rattle.cdc_model.specs.Branch.{is_settled}
 use Rattle.cdc_model.specs.Transaction.{settled_keys, has_key, first_seconds, transaction_of, transactions_of}
-use Rattle.cdc_model.specs.SettledOrder.{IsFront, transactions_under, LesserMarkSettlesAFront}
+use Rattle.cdc_model.specs.SettledOrder.{IsFront, LesserMarkSettlesAFront}
 use Rattle.cdc_model.specs.Feed.{own_branches, settled_branches, SameUnder, SameBranchesSameOrder, SettledBranchesGoOn}
 use Rattle.cdc_model.proofs.Members.{contains_first, contains_later, contains_none, contains_cases}
-use Rattle.cdc_model.proofs.KeyList.{IsBelowAll, not_below_itself, below_member}
+use Rattle.cdc_model.proofs.KeyList.{not_below_itself, below_member}
 use Rattle.cdc_model.proofs.SettledKeys.{keys_of, settled_sorted, in_settled}
 use Rattle.cdc_model.proofs.SameXid.{no_test}
-use Rattle.cdc_model.proofs.Fronts.{front_itself, front_same, front_flat_map, nothing_behind, IsAboveEach, ascending_front, same_keys}
+use Rattle.cdc_model.proofs.Fronts.{front_flat_map, IsAboveEach, ascending_front, same_keys}
 
 -- ---- a branch and its key
 
@@ -164,9 +162,10 @@ same_settled_keys mark branches others same =
 above_each : (mark : ℕ) (keys : List Key) (key : Key) → ((k : Key) → Contains keys k → is_settled mark k ≡ true) → is_settled mark key ≡ false
     → IsAboveEach keys key
 above_each mark [] key settled not = tt
-above_each mark (first ∷ keys) key settled not =
-    (settled_below mark first key (settled first (contains_first first keys)) not,
-    above_each mark keys key (λ k within. settled k (contains_later first keys k within)) not)
+above_each mark (first ∷ keys) key settled not = (
+  settled_below mark first key (settled first (contains_first first keys)) not,
+  above_each mark keys key (λ k within. settled k (contains_later first keys k within)) not,
+)
 
 pub lesser_keys : (less mark : ℕ) (branches : List CommittedBranch) → less ≤ mark → IsFront (settled_keys less branches) (settled_keys mark branches)
 lesser_keys less mark branches h =

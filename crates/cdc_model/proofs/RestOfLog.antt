@@ -1,26 +1,23 @@
 -- What is read from the end of an entry on are the entries behind it.
-use Rattle.std.proofs.Common.{◌≡◌, ◌≢◌, ◌⊎◌, ◌≤◌, ◌<◌, inl, inr, ℕ, zero, suc, ◌+◌, ◌-◌, Bool, true, false, List, [], ◌∷◌, ◌++◌, length, length-append, append_assoc, append-nil, map, drop, Option, Some, None, ap, sym, subst, refl, ◌∙◌, le_refl, arith}
-use Rattle.std.specs.List.{cons_option}
+use Rattle.std.proofs.Common.{◌≡◌, ◌≤◌, inl, inr, ℕ, zero, suc, ◌+◌, ◌-◌, Bool, true, false, List, [], ◌∷◌, ◌++◌, length, map, drop, Option, Some, None, ap, sym, subst, refl, ◌∙◌, arith}
 use Rattle.std.specs.Option.{option_map}
 use Rattle.std.proofs.lemmas.List.{drop_at}
 use Rattle.cdc_base.specs.declared.place.Place.{Place}
 use Rattle.cdc_event.specs.declared.fault.FileFault.{FileFault}
-use Rattle.cdc_event.specs.Event.{magic}
 use Rattle.cdc_event.specs.File.{PlacedEvent, AreEvents, AreFileEvents, AreEventsFrom, FilesHaveOneReading, RestIsRead}
 use Rattle.cdc_model.specs.declared.entry.EntryKind.{EntryKind}
 use Rattle.cdc_model.specs.declared.fault.GroupFault.{GroupFault}
 use Rattle.cdc_model.specs.declared.fault.NodeFault.{NodeFault}
-use Rattle.cdc_model.specs.declared.fault.NodeFault.TheVariants.{Group}
 use Rattle.cdc_model.specs.Records.{LogEntry}
-use Rattle.cdc_model.specs.Sign.{Sign, SignedEvent, signed, BeatTime, NumberEvent, PrepareEvent, CommitText, XaCommitText, XaRollbackText}
+use Rattle.cdc_model.specs.Sign.{Sign, signed, BeatTime, NumberEvent, PrepareEvent, CommitText, XaCommitText, XaRollbackText}
 use Rattle.cdc_model.specs.Group.{Progress, Out, Wait, Xa, End, Local}
 use Rattle.cdc_model.specs.Misfit.{misfit}
 use Rattle.cdc_model.specs.Advance.{advance, made, entry_at, entry_given}
-use Rattle.cdc_model.specs.Entries.{file_fault, AreEntriesOfEvents, AreFileEntries, AreEntriesFrom, AreLogEntries}
-use Rattle.cdc_model.specs.ReadFrom.{AreFileEntriesFrom, AreEntriesOn, AreEntriesReadFrom, StartReadsAll, RestOfLogIsRead, OneRest}
+use Rattle.cdc_model.specs.Entries.{AreEntriesOfEvents, AreFileEntries, AreEntriesFrom}
+use Rattle.cdc_model.specs.ReadFrom.{AreFileEntriesFrom, AreEntriesOn, StartReadsAll, RestOfLogIsRead, OneRest}
 use Rattle.cdc_model.proofs.GroupMachine.{Ending, Reached, Misplaced, judged, outcome}
 use Rattle.cdc_model.proofs.GroupOutcome.{fault_of, entries_of_run}
-use Rattle.cdc_model.proofs.LogReading.{Listed, listed, closed, run_of_entries, same_entries, one_list}
+use Rattle.cdc_model.proofs.LogReading.{listed, closed, run_of_entries, same_entries, one_list}
 
 -- ---- an event that ends an entry leads out
 
@@ -198,10 +195,13 @@ module _ (rest_is_read : RestIsRead) where
               let size : length front ≡ found.last.end = omega (arith, place) in
               let bytes_behind : drop found.last.end bytes ≡ rest = ap (drop found.last.end) is ∙ drop_at front rest found.last.end size in
               let first : 1 ≤ found.last.end = omega (arith, behind_magic bytes found.front found.last found.rest ended whole) in
-              let here : AreFileEntriesFrom file found.last.end found.last.checksum bytes behind fault =
-              (found.rest, ended,
-              subst (λ (list : List ℕ). AreEventsFrom found.last.end found.last.checksum list found.rest ended) (sym bytes_behind)
-              (from_place found.last.end found.last.checksum rest found.rest ended first events_behind), rest_entries) in
+              let here : AreFileEntriesFrom file found.last.end found.last.checksum bytes behind fault = (
+                found.rest,
+                ended,
+                subst (λ (list : List ℕ). AreEventsFrom found.last.end found.last.checksum list found.rest ended) (sym bytes_behind)
+                    (from_place found.last.end found.last.checksum rest found.rest ended first events_behind),
+                rest_entries,
+              ) in
               record {
                 here = ap (λ (p : Place). p.file) found.place;
                 read =
@@ -274,9 +274,13 @@ module _ (rest_is_read : RestIsRead) where
             read =
                 subst (λ (list : List (List ℕ)). AreEntriesOn entry.end.file entry.end.at entry.checksum list behind fault)
                 (sym (drop_none (entry.end.file - file) bytes files none))
-                (inr (rest, later, q,
-                subst (λ (n : ℕ). AreFileEntriesFrom n entry.end.at entry.checksum bytes rest None) (sym file_is) found.read,
-                subst (λ (n : ℕ). AreEntriesFrom (n + 1) files later fault) (sym file_is) from));
+                (inr (
+                  rest,
+                  later,
+                  q,
+                  subst (λ (n : ℕ). AreFileEntriesFrom n entry.end.at entry.checksum bytes rest None) (sym file_is) found.read,
+                  subst (λ (n : ℕ). AreEntriesFrom (n + 1) files later fault) (sym file_is) from,
+                ));
           }
 
       in_others : RestOfFiles (file + 1) files entry behind fault → RestOfFiles file (bytes ∷ files) entry behind fault

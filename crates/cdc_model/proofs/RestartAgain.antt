@@ -1,8 +1,8 @@
 -- The restart points of what is read from a restart point are those of the whole log.
-use Rattle.std.proofs.Common.{◌≡◌, ◌≤◌, ◌<◌, ℕ, ◌+◌, ◌-◌, min, inl, inr, leb, Bool, true, false, if◌then◌else◌, List, [], ◌∷◌, ◌++◌, length, length-append, append-nil, map, take, find, reverse, Option, Some, None, ap, sym, subst, refl, ◌∙◌, arith}
+use Rattle.std.proofs.Common.{◌≡◌, ◌≤◌, ◌<◌, ℕ, ◌+◌, ◌-◌, inl, inr, leb, Bool, true, false, if◌then◌else◌, List, [], ◌∷◌, ◌++◌, length, length-append, append-nil, map, take, reverse, Option, Some, None, ap, sym, subst, refl, ◌∙◌, arith}
 use Rattle.std.specs.List.{AllByRecursion}
 use Rattle.std.specs.Option.{option_map}
-use Rattle.std.proofs.lemmas.Bool.{cases_lt, le-leb, leb-true, leb-false}
+use Rattle.std.proofs.lemmas.Bool.{cases_lt, le-leb, leb-true}
 use Rattle.std.proofs.lemmas.List.{reverse-append, length-reverse}
 use Rattle.cdc_base.specs.declared.key.Key.{Key}
 use Rattle.cdc_base.specs.declared.key.Key.TheVariants.{Shared, Plain as PlainKey}
@@ -11,12 +11,12 @@ use Rattle.cdc_model.specs.declared.entry.EntryKind.TheVariants.{Prepare, OnePha
 use Rattle.cdc_model.specs.Records.{LogEntry, OpenBranch, Start}
 use Rattle.cdc_model.specs.Start.{find_open, left}
 use Rattle.cdc_model.specs.Branch.{Begun, committed, branch_of, begun_branches}
-use Rattle.cdc_model.specs.Restart.{RestartPoint, start_at, point_behind, point_before, IsAtMost, IsRestartEntry, IsRestartPoint, IsLatestPoint, PointsGoOn, RestartedPointsAreTheWholes}
+use Rattle.cdc_model.specs.Restart.{RestartPoint, start_at, point_behind, point_before, IsAtMost, IsRestartEntry, IsRestartPoint, PointsGoOn, RestartedPointsAreTheWholes}
 use Rattle.cdc_model.proofs.Marks.{numbers_count}
 use Rattle.cdc_model.proofs.SoundFront.{left_append}
 use Rattle.cdc_model.proofs.GrammarRows.{all_both, all_front, all_back}
 use Rattle.cdc_model.proofs.SoundGrowth.{begun_append}
-use Rattle.cdc_model.proofs.Keeping.{forget, kept, forget_late, find_kept, left_kept, number_grows, all_weaker, opened_before, start_before, point_is_kept, point_behind_append}
+use Rattle.cdc_model.proofs.Keeping.{forget, kept, find_kept, left_kept, number_grows, start_before, point_is_kept, point_behind_append}
 use Rattle.cdc_model.proofs.RestartPoints.{at_most_on, OpenFrom, BegunBelow}
 use Rattle.cdc_model.proofs.RestartRest.{begun_before, take_past}
 
@@ -258,12 +258,12 @@ module _ (last later : Key) (from : RestartPoint) (node : ℕ) (before behind : 
       (subst (λ (list : List LogEntry). IsRestartEntry last first node list point.entry) order is.sound) in
       let forth_entry : (number : ℕ) → IsRestartEntry later (start_at point) node (reverse behind) number → IsRestartEntry later first node (reverse (before ++ behind)) number =
       λ number rest.
-          subst (λ (list : List LogEntry). IsRestartEntry later first node list number) (sym order)
-          (entry_forth more sound number (subst (λ (s : Start). IsRestartEntry later s node (reverse behind) number) start_is rest)) in
+      subst (λ (list : List LogEntry). IsRestartEntry later first node list number) (sym order)
+      (entry_forth more sound number (subst (λ (s : Start). IsRestartEntry later s node (reverse behind) number) start_is rest)) in
       let back_entry : (number : ℕ) → point.entry ≤ number → IsRestartEntry later first node (reverse (before ++ behind)) number → IsRestartEntry later (start_at point) node (reverse behind) number =
       λ number h all.
-          subst (λ (s : Start). IsRestartEntry later s node (reverse behind) number) (sym start_is)
-          (entry_back number (omega (arith, number_is, h)) (subst (λ (list : List LogEntry). IsRestartEntry later first node list number) order all)) in
+      subst (λ (s : Start). IsRestartEntry later s node (reverse behind) number) (sym start_is)
+      (entry_back number (omega (arith, number_is, h)) (subst (λ (list : List LogEntry). IsRestartEntry later first node list number) order all)) in
       let forth : (other : RestartPoint) → IsRestartPoint later point node behind other → IsRestartPoint later from node (before ++ behind) other =
       λ other rest. record {
         sound = forth_entry other.entry rest.sound;

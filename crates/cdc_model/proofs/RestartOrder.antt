@@ -1,7 +1,7 @@
 -- The order behind the n-th transaction, and what the logs of all nodes settle that are read from restart points.
-use Rattle.std.proofs.Common.{◌≡◌, ◌⊎◌, ◌≤◌, ◌<◌, ℕ, zero, suc, ◌+◌, ◌-◌, inl, inr, leb, Bool, true, false, IsTrue, not, cond, ◌&&◌, List, [], ◌∷◌, ◌++◌, length, length-append, append_assoc, append-nil, map, filter, take, drop, find, Option, Some, None, Contains, ap, sym, subst, refl, ◌∙◌, arith}
+use Rattle.std.proofs.Common.{◌≡◌, ◌⊎◌, ◌≤◌, ℕ, zero, suc, ◌+◌, inl, inr, leb, Bool, true, false, cond, ◌&&◌, List, [], ◌∷◌, ◌++◌, length, length-append, map, filter, drop, find, Contains, ap, sym, subst, refl, ◌∙◌, arith}
 use Rattle.std.specs.Prelude.{slice_get}
-use Rattle.std.specs.List.{AllByRecursion, AllZip, flat_map, enumerate_from, before_first}
+use Rattle.std.specs.List.{AllZip, flat_map, enumerate_from, before_first}
 use Rattle.std.specs.List.Sorted.{IsStrictlySortedBy}
 use Rattle.std.specs.Ordering.{is_gt}
 use Rattle.std.specs.declared.cmp.Ordering.{Ordering}
@@ -9,25 +9,24 @@ use Rattle.std.specs.declared.cmp.Ordering.TheVariants.{Less, Equal, Greater}
 use Rattle.std.proofs.lemmas.List.{length-map}
 use Rattle.std.proofs.lemmas.List.Elements.{filter-append}
 use Rattle.cdc_base.specs.declared.key.Key.{Key}
-use Rattle.cdc_base.specs.declared.rename.Rename.{Rename}
 use Rattle.cdc_base.specs.Key.{key_order, first_key}
 use Rattle.cdc_base.proofs.KeyOrder.{key_order_total, same_key}
 use Rattle.cdc_model.specs.declared.node_log.NodeLog.{NodeLog}
-use Rattle.cdc_model.specs.Records.{LogEntry, CommittedBranch, Start, Transaction}
+use Rattle.cdc_model.specs.Records.{CommittedBranch, Start, Transaction}
 use Rattle.cdc_model.specs.Watermark.{low_water_mark, node_low_water_mark}
 use Rattle.cdc_model.specs.Soundness.{sound_entries, reached}
-use Rattle.cdc_model.specs.Branch.{Begun, is_new, new_branches, is_settled}
-use Rattle.cdc_model.specs.Transaction.{has_key, settled_keys, transaction_of, transactions_of, node_branches, all_branches, logs_low_water_mark, ordered_transactions, is_oversized, settled_transactions, oversized_transaction, key_or_first, key_at}
+use Rattle.cdc_model.specs.Branch.{Begun, is_new, new_branches}
+use Rattle.cdc_model.specs.Transaction.{has_key, settled_keys, transactions_of, node_branches, all_branches, logs_low_water_mark, ordered_transactions, is_oversized, settled_transactions, key_or_first, key_at}
 use Rattle.cdc_model.specs.SettledOrder.{IsFront, transactions_under}
 use Rattle.cdc_model.specs.Feed.{own_branches}
 use Rattle.cdc_model.specs.Growth.{LogGrows, LogsGrow}
-use Rattle.cdc_model.specs.Restart.{RestartPoint, first_point, start_at, IsRestartPoint, ReadsTheRest, log_behind, AreRestartPoints, AreWhole, logs_behind, GivesTheRest, RestartGivesTheRest}
+use Rattle.cdc_model.specs.Restart.{RestartPoint, first_point, start_at, IsRestartPoint, ReadsTheRest, log_behind, AreWhole, logs_behind, RestartGivesTheRest}
 use Rattle.cdc_model.proofs.Members.{contains_first, contains_later, contains_none, contains_cases}
 use Rattle.cdc_model.proofs.KeyList.{IsBelowAll, above, not_below_itself, not_both_below, below_member}
 use Rattle.cdc_model.proofs.SameXid.{no_test}
 use Rattle.cdc_model.proofs.SettledKeys.{keys_of, settled_sorted}
 use Rattle.cdc_model.proofs.GlobalOrder.{keys_in, keys_kept}
-use Rattle.cdc_model.proofs.OrderCut.{first_passes, first_fails, found_at, found_later}
+use Rattle.cdc_model.proofs.OrderCut.{first_passes, first_fails, found_later}
 use Rattle.cdc_model.proofs.Fronts.{same_keys}
 use Rattle.cdc_model.proofs.OwnBranches.{has_is, settled_member, member_settled, same_transactions}
 use Rattle.cdc_model.proofs.OutputGrowth.{settled_order_grows}
@@ -117,9 +116,10 @@ above_member last (branch ∷ branches) key within = by (is_above last branch) r
         → Contains (keys_of (branch ∷ branches)) key × (is_gt (key_order key last) ≡ true)
     by true is member later =
         elim (contains_cases branch.key (keys_of (above_last last branches)) key member) [
-          | inl same ↦
-              (subst (Contains (branch.key ∷ keys_of branches)) same (contains_first branch.key (keys_of branches)),
-              subst (λ (k : Key). is_gt (key_order k last) ≡ true) same is)
+          | inl same ↦ (
+            subst (Contains (branch.key ∷ keys_of branches)) same (contains_first branch.key (keys_of branches)),
+            subst (λ (k : Key). is_gt (key_order k last) ≡ true) same is,
+          )
           | inr further ↦ let found = later further in (contains_later branch.key (keys_of branches) key found.0, found.1)
         ]
     by false is member later = let found = later member in (contains_later branch.key (keys_of branches) key found.0, found.1)
@@ -234,13 +234,13 @@ module _ (low : Key) (mark : ℕ) (branches : List CommittedBranch) (all : (key 
       let above_them : List CommittedBranch = above_last last branches in
       same_keys (settled_keys mark above_them) (drop count settled) (settled_sorted mark above_them) (sorted_dropped count settled (settled_sorted mark branches))
       (λ key within.
-          let is = settled_member mark above_them key within in
-          let found = above_member last branches key is.1 in
-          above_is_behind low count settled key under_all (settled_sorted mark branches) h (member_settled mark branches key is.0 found.0) (greater key last found.1))
+      let is = settled_member mark above_them key within in
+      let found = above_member last branches key is.1 in
+      above_is_behind low count settled key under_all (settled_sorted mark branches) h (member_settled mark branches key is.0 found.0) (greater key last found.1))
       (λ key within.
-          let found = behind_is_above low count settled key under_all (settled_sorted mark branches) h within in
-          let is = settled_member mark branches key found.0 in
-          member_settled mark above_them key is.0 (member_above last branches key is.1 (is_greater key last found.1)))
+      let found = behind_is_above low count settled key under_all (settled_sorted mark branches) h within in
+      let is = settled_member mark branches key found.0 in
+      member_settled mark above_them key is.0 (member_above last branches key is.1 (is_greater key last found.1)))
 
   order_behind : (count : ℕ) → count ≤ length settled
       → transactions_under count mark (above_last (nth_or low count settled) branches) ≡ drop count (transactions_under 0 mark branches)
@@ -366,8 +366,8 @@ restart_gives_the_rest rules count olds news points begin grow h are =
     ∙ ap (nth_or first_key count) kept in
     let above_first : (key : Key) → Contains (keys_of branches) key → key_order first_key key ≡ Less =
     λ key within.
-        greater key first_key
-        (above_member first_key branches key (subst (λ (list : List CommittedBranch). Contains (keys_of list) key) (all_above first_key first_key 1 news (inl refl)) within)).1 in
+    greater key first_key
+    (above_member first_key branches key (subst (λ (list : List CommittedBranch). Contains (keys_of list) key) (all_above first_key first_key 1 news (inl refl)) within)).1 in
     let at : At first_key last =
     subst (At first_key) (sym last_is) (at_least first_key count keys (under_all first_key mark branches above_first) (settled_sorted mark branches)) in
     let alike = read_alike last 1 olds news points begin grow are in

@@ -1,32 +1,33 @@
 -- Restart points of one node: the start is one, they stay, and there is a latest one.
-use Rattle.std.proofs.Common.{◌≡◌, ◌⊎◌, ◌≤◌, ◌<◌, ℕ, zero, suc, ◌+◌, ◌-◌, min, inl, inr, leb, Bool, true, false, not, cond, List, [], ◌∷◌, ◌++◌, length, length-append, append_assoc, append-nil, map, take, drop, find, reverse, Option, Some, None, ap, sym, subst, refl, ◌∙◌, arith}
+use Rattle.std.proofs.Common.{◌≡◌, ◌≤◌, ◌<◌, ℕ, ◌+◌, ◌-◌, min, inl, inr, leb, Bool, true, false, cond, ◌&&◌, List, [], ◌∷◌, ◌++◌, length, length-append, map, filter, take, find, reverse, Option, Some, None, ap, sym, subst, refl, ◌∙◌, arith}
 use Rattle.std.specs.List.{AllByRecursion}
 use Rattle.std.specs.Ordering.{is_gt}
 use Rattle.std.specs.declared.cmp.Ordering.{Ordering}
 use Rattle.std.specs.declared.cmp.Ordering.TheVariants.{Less, Equal, Greater}
-use Rattle.std.proofs.lemmas.Bool.{cases_lt}
-use Rattle.std.proofs.lemmas.List.{reverse-append, length-reverse, take-append-le, take-append-drop, length-take}
+use Rattle.std.proofs.lemmas.Bool.{cases_lt, leb-true, leb-false}
+use Rattle.std.proofs.lemmas.List.{reverse-append, length-reverse, take-append-le, length-take}
 use Rattle.cdc_base.specs.declared.key.Key.{Key}
-use Rattle.cdc_base.specs.declared.key.Key.TheVariants.{Shared, Plain as PlainKey}
+use Rattle.cdc_base.specs.declared.key.Key.TheVariants.{Shared}
 use Rattle.cdc_base.specs.declared.xid.Xid.{Xid}
 use Rattle.cdc_base.specs.Key.{key_order}
 use Rattle.cdc_base.proofs.KeyOrder.{key_order_total, same_key}
 use Rattle.cdc_base.specs.Xid.{same_xid}
 use Rattle.cdc_model.specs.declared.entry.EntryKind.{EntryKind}
 use Rattle.cdc_model.specs.declared.entry.EntryKind.TheVariants.{Prepare, OnePhase, Commit, Rollback, Plain, Beat}
-use Rattle.cdc_model.specs.Records.{Row, LogEntry, OpenBranch, Start}
-use Rattle.cdc_model.specs.Start.{find_open, opened_by, left}
-use Rattle.cdc_model.specs.Branch.{Begun, committed, branch_of, begun_branches}
-use Rattle.cdc_model.specs.Commits.{IsHeld, IsStart}
+use Rattle.cdc_model.specs.Records.{LogEntry, OpenBranch, Start}
+use Rattle.cdc_model.specs.Start.{find_open, left}
+use Rattle.cdc_model.specs.Watermark.{least}
+use Rattle.cdc_model.specs.Branch.{Begun, committed, branch_of, begun_branches, is_new}
+use Rattle.cdc_model.specs.Commits.{IsHeld}
 use Rattle.cdc_model.specs.Openings.{IsXidBelow, AscendByXid}
 use Rattle.cdc_model.specs.SettledOrder.{IsFront}
-use Rattle.cdc_model.specs.Restart.{RestartPoint, held_open, held_of, start_at, point_behind, point_before, IsAtMost, IsRestartEntry, IsRestartPoint, IsLatestPoint, StartIsRestartPoint, RestartPointStays, OneLatestPoint, LatestNeverFalls, RestartPointIsStart}
+use Rattle.cdc_model.specs.Restart.{RestartPoint, held_open, held_of, start_at, point_behind, point_before, IsAtMost, IsRestartEntry, IsLatestPoint, latest_number, latest_point, SoundNumbersEnd, StartIsRestartPoint, RestartPointStays, OneLatestPoint, LatestNeverFalls, RestartPointIsStart}
 use Rattle.cdc_model.proofs.KeyList.{above, not_both_below}
 use Rattle.cdc_model.proofs.Marks.{numbers_count}
 use Rattle.cdc_model.proofs.SameXid.{no_test}
-use Rattle.cdc_model.proofs.GrammarRows.{all_both}
+use Rattle.cdc_model.proofs.GrammarRows.{all_both, all_front, all_back}
 use Rattle.cdc_model.proofs.XidOrder.{open_branches_ascend}
-use Rattle.cdc_model.proofs.Keeping.{all_next, all_weaker, number_grows}
+use Rattle.cdc_model.proofs.Keeping.{all_next, all_weaker}
 
 -- ---- keys that are at most another
 
@@ -181,118 +182,147 @@ restart_point_stays last later from node entries more point low front is =
 
 -- ---- the latest
 
-abbrev Decided : Type 0 → Type 0
-Decided P = P ⊎ (P → ⊥)
+at_most_least : (number most : ℕ) (numbers : List ℕ) → number ≤ least most numbers → (number ≤ most) × AllByRecursion (λ (n : ℕ). number ≤ n) numbers
+at_most_least number most [] h = (h, tt)
+at_most_least number most (n ∷ numbers) h =
+    let rest = at_most_least number (min most n) numbers h in
+    (omega (arith, rest.0), (omega (arith, rest.0), rest.1))
 
-all_decided : {X : Type 0} (P : X → Type 0) → ((x : X) → Decided (P x)) → (xs : List X) → Decided (AllByRecursion P xs)
-all_decided P each [] = inl tt
-all_decided {X} P each (x ∷ xs) = by (each x) (all_decided P each xs)
+least_at_most : (number most : ℕ) (numbers : List ℕ) → number ≤ most → AllByRecursion (λ (n : ℕ). number ≤ n) numbers → number ≤ least most numbers
+least_at_most number most [] h all = h
+least_at_most number most (n ∷ numbers) h (here, all) = least_at_most number (min most n) numbers (omega (arith, h, here)) all
+
+-- the numbers of what passes a test
+abbrev numbers_where : {X : Type 0} → (X → Bool) → (X → ℕ) → List X → List ℕ
+numbers_where test number_of xs = map number_of (filter test xs)
+
+where_passes : {X : Type 0} (test : X → Bool) (number_of : X → ℕ) (P : X → Type 0) (number : ℕ) → ((x : X) → test x ≡ true → P x → number ≤ number_of x)
+    → (xs : List X) → AllByRecursion P xs → AllByRecursion (λ (n : ℕ). number ≤ n) (numbers_where test number_of xs)
+where_passes test number_of P number least [] all = tt
+where_passes {X} test number_of P number least (x ∷ xs) (here, all) = by (test x) refl (where_passes test number_of P number least xs all)
   where
-    by : Decided (P x) → Decided (AllByRecursion P xs) → Decided (P x × AllByRecursion P xs)
-    by (inl here) (inl all) = inl (here, all)
-    by (inl here) (inr never) = inr (λ both. never both.1)
-    by (inr never) all = inr (λ both. never both.0)
+    by : (b : Bool) → test x ≡ b → AllByRecursion (λ (n : ℕ). number ≤ n) (numbers_where test number_of xs)
+        → AllByRecursion (λ (n : ℕ). number ≤ n) (map number_of (cond b (x ∷ filter test xs) (filter test xs)))
+    by true is later = (least x is here, later)
+    by false is later = later
 
-least_decided : (a b : ℕ) → Decided (a ≤ b)
-least_decided a b = elim (cases_lt b a) [ inl less ↦ inr (λ h. omega (arith, h, less)) | inr more ↦ inl more ]
-
-implied_decided : (P Q : Type 0) → Decided P → Decided Q → Decided (P → Q)
-implied_decided P Q (inl p) (inl q) = inl (λ _. q)
-implied_decided P Q (inl p) (inr never) = inr (λ f. never (f p))
-implied_decided P Q (inr never) q = inl (λ p. absurd (never p))
-
-test_decided : (b : Bool) → Decided (b ≡ false)
-test_decided true = inr (λ e. no_test (sym e))
-test_decided false = inl refl
-
-entry_decided : (last : Key) (start : Start) (node : ℕ) (history : List LogEntry) (number : ℕ) → start.entry ≤ number → number ≤ start.entry + length history
-    → Decided (IsRestartEntry last start node history number)
-entry_decided last start node history number first most =
-    by (all_decided (λ (o : OpenBranch). start.entry ≤ o.entry → number ≤ o.entry)
-    (λ o. implied_decided (start.entry ≤ o.entry) (number ≤ o.entry) (least_decided start.entry o.entry) (least_decided number o.entry)) (left start history).opened)
-    (all_decided (λ (b : Begun). start.entry ≤ b.0 → b.0 < number → IsAtMost b.1.key last)
-    (λ b. implied_decided (start.entry ≤ b.0) (b.0 < number → IsAtMost b.1.key last) (least_decided start.entry b.0)
-    (implied_decided (b.0 < number) (IsAtMost b.1.key last) (least_decided (suc b.0) number) (test_decided (is_gt (key_order b.1.key last)))))
-    (begun_branches start node history))
+passes_where : {X : Type 0} (test : X → Bool) (number_of : X → ℕ) (P : X → Type 0) (number : ℕ) → ((x : X) → test x ≡ false → P x) → ((x : X) → number ≤ number_of x → P x)
+    → (xs : List X) → AllByRecursion (λ (n : ℕ). number ≤ n) (numbers_where test number_of xs) → AllByRecursion P xs
+passes_where test number_of P number fails holds [] all = tt
+passes_where {X} test number_of P number fails holds (x ∷ xs) all = by (test x) refl all (passes_where test number_of P number fails holds xs)
   where
-    by : Decided (OpenFrom start.entry number (left start history).opened) → Decided (BegunBelow start.entry number last (begun_branches start node history))
-        → Decided (IsRestartEntry last start node history number)
-    by (inl ended) (inl below) = inl record { first = first; most = most; ended = ended; below = below }
-    by (inl ended) (inr never) = inr (λ sound. never sound.below)
-    by (inr never) below = inr (λ sound. never sound.ended)
+    by : (b : Bool) → test x ≡ b → AllByRecursion (λ (n : ℕ). number ≤ n) (map number_of (cond b (x ∷ filter test xs) (filter test xs)))
+        → (AllByRecursion (λ (n : ℕ). number ≤ n) (numbers_where test number_of xs) → AllByRecursion P xs) → AllByRecursion P (x ∷ xs)
+    by true is (here, rest) later = (holds x here, later rest)
+    by false is rest later = (fails x is, later rest)
 
--- the greatest sound number among the first ones
-record Greatest (last : Key) (start : Start) (node : ℕ) (history : List LogEntry) (count : ℕ) : Type 0 where
-  number : ℕ
-  sound : IsRestartEntry last start node history number
-  greatest : (other : ℕ) → other ≤ start.entry + count → IsRestartEntry last start node history other → other ≤ number
+module _ (last : Key) (start : Start) (node : ℕ) (history : List LogEntry) where
+  abbrev here : Start
+  here = left start history
 
-greatest_of : (last : Key) (start : Start) (node : ℕ) (history : List LogEntry) (count : ℕ) → count ≤ length history → Greatest last start node history count
-greatest_of last start node history zero h = record {
-  number = start.entry;
-  sound = start_entry last start node history;
-  greatest = λ other low sound. omega (arith, low);
-}
-greatest_of last start node history (suc count) h =
-    by (entry_decided last start node history (start.entry + suc count) (omega arith) (omega (arith, h)))
-    (greatest_of last start node history count (omega (arith, h)))
+  abbrev opened_late : OpenBranch → Bool
+  opened_late o = leb start.entry o.entry
+
+  abbrev waiting : List ℕ
+  waiting = numbers_where opened_late (λ (o : OpenBranch). o.entry) here.opened
+
+  abbrev begun_above : List ℕ
+  begun_above = numbers_where (is_new last start) (λ (b : Begun). b.0) (begun_branches start node history)
+
+  -- a branch that isn't new has a number before the start, or a key of at most the last
+  not_new : (first : Bool) (over : Bool) (b : Begun) → leb start.entry b.0 ≡ first → is_gt (key_order b.1.key last) ≡ over → (first && over) ≡ false
+      → start.entry ≤ b.0 → IsAtMost b.1.key last
+  not_new true true b p q e h = absurd (no_test (sym e))
+  not_new true false b p q e h = q
+  not_new false over b p q e h = absurd (let less : b.0 < start.entry = leb-false start.entry b.0 p in omega (arith, less, h))
+
+  new_is_above : (first : Bool) (over : Bool) (b : Begun) → leb start.entry b.0 ≡ first → is_gt (key_order b.1.key last) ≡ over → (first && over) ≡ true
+      → (number : ℕ) → (start.entry ≤ b.0 → b.0 < number → IsAtMost b.1.key last) → number ≤ b.0
+  new_is_above true true b p q e number low =
+      elim (cases_lt b.0 number) [
+        | inl less ↦ absurd (no_test (sym (low (leb-true start.entry b.0 p) less) ∙ q))
+        | inr more ↦ more
+      ]
+  new_is_above true false b p q e number low = absurd (no_test e)
+  new_is_above false over b p q e number low = absurd (no_test e)
+
+  sound_numbers : (number : ℕ) → IsRestartEntry last start node history number → number ≤ latest_number last start node history
+  sound_numbers number sound =
+      least_at_most number here.entry (waiting ++ begun_above) (omega (arith, numbers_count start history, sound.most))
+      (all_both (λ (n : ℕ). number ≤ n) waiting begun_above
+      (where_passes opened_late (λ (o : OpenBranch). o.entry) (λ (o : OpenBranch). start.entry ≤ o.entry → number ≤ o.entry) number
+      (λ o is low. low (leb-true start.entry o.entry is)) here.opened sound.ended)
+      (where_passes (is_new last start) (λ (b : Begun). b.0) (λ (b : Begun). start.entry ≤ b.0 → b.0 < number → IsAtMost b.1.key last) number
+      (λ b is low. new_is_above (leb start.entry b.0) (is_gt (key_order b.1.key last)) b refl refl is number low)
+      (begun_branches start node history) sound.below))
+
+  numbers_sound : (number : ℕ) → start.entry ≤ number → number ≤ latest_number last start node history → IsRestartEntry last start node history number
+  numbers_sound number first h =
+      let parts = at_most_least number here.entry (waiting ++ begun_above) h in
+      let ended_part = all_front (λ (n : ℕ). number ≤ n) waiting begun_above parts.1 in
+      let below_part = all_back (λ (n : ℕ). number ≤ n) waiting begun_above parts.1 in
+      record {
+        first = first;
+        most = omega (arith, parts.0, numbers_count start history);
+        ended =
+            passes_where opened_late (λ (o : OpenBranch). o.entry) (λ (o : OpenBranch). start.entry ≤ o.entry → number ≤ o.entry) number
+            (λ o is low. absurd (let less : o.entry < start.entry = leb-false start.entry o.entry is in omega (arith, less, low)))
+            (λ o more low. more) here.opened ended_part;
+        below =
+            passes_where (is_new last start) (λ (b : Begun). b.0) (λ (b : Begun). start.entry ≤ b.0 → b.0 < number → IsAtMost b.1.key last) number
+            (λ b is low less. not_new (leb start.entry b.0) (is_gt (key_order b.1.key last)) b refl refl is low)
+            (λ b more low less. absurd (omega (arith, more, less))) (begun_branches start node history) below_part;
+      }
+
+pub sound_numbers_end : SoundNumbersEnd
+sound_numbers_end last start node history number = (
+  λ sound. (sound.first, sound_numbers last start node history number sound),
+  λ both. numbers_sound last start node history number both.0 both.1,
+)
+
+-- the point of a sound number has that number
+numbered : (last : Key) (from : RestartPoint) (node : ℕ) (entries : List LogEntry) (number : ℕ) → IsRestartEntry last (start_at from) node (reverse entries) number
+    → (point_before from entries number).entry ≡ number
+numbered last from node entries number sound =
+    let size : length (take (number - from.entry) entries) ≡ number - from.entry =
+    length-take (number - from.entry) entries
+    ∙ (let n : min (number - from.entry) (length entries) ≡ number - from.entry = omega (arith, sound.most, length-reverse entries) in n) in
+    behind (reverse (take (number - from.entry) entries))
+    ∙ (let n : from.entry + length (reverse (take (number - from.entry) entries)) ≡ number =
+    omega (arith, length-reverse (take (number - from.entry) entries), size, sound.first) in n)
   where
-    by : Decided (IsRestartEntry last start node history (start.entry + suc count)) → Greatest last start node history count → Greatest last start node history (suc count)
-    by (inl sound) rest = record { number = start.entry + suc count; sound = sound; greatest = λ other low s. low }
-    by (inr never) rest = record { number = rest.number; sound = rest.sound; greatest = below }
-      where
-        below : (other : ℕ) → other ≤ start.entry + suc count → IsRestartEntry last start node history other → other ≤ rest.number
-        below other low s =
-            elim (cases_lt other (start.entry + suc count)) [
-              | inl less ↦ rest.greatest other (omega (arith, less)) s
-              | inr more ↦
-                  absurd (never (subst (IsRestartEntry last start node history) (let same : other ≡ start.entry + suc count = omega (arith, low, more) in same) s))
-            ]
+    behind : (history : List LogEntry) → (point_behind from history).entry ≡ from.entry + length history
+    behind [] = omega arith
+    behind (entry ∷ earlier) = numbers_count (start_at from) (entry ∷ earlier)
 
-pub latest_exists : (last : Key) (from : RestartPoint) (node : ℕ) (entries : List LogEntry) → (point : RestartPoint) × IsLatestPoint last from node entries point
-latest_exists last from node entries =
-    of_greatest (greatest_of last (start_at from) node (reverse entries) (length (reverse entries)) (omega arith))
-  where
-    -- the point of a sound number has that number
-    numbered : (number : ℕ) → IsRestartEntry last (start_at from) node (reverse entries) number → (point_before from entries number).entry ≡ number
-    numbered number sound = by (take (number - from.entry) entries) refl
-      where
-        by : (before : List LogEntry) → take (number - from.entry) entries ≡ before → (point_behind from (reverse before)).entry ≡ number
-        by before is =
-            let size : length before ≡ number - from.entry =
-            ap length (sym is) ∙ length-take (number - from.entry) entries
-            ∙ (let n : min (number - from.entry) (length entries) ≡ number - from.entry = omega (arith, sound.most, length-reverse entries) in n) in
-            behind (reverse before) ∙ (let n : from.entry + length (reverse before) ≡ number = omega (arith, length-reverse before, size, sound.first) in n)
-          where
-            behind : (history : List LogEntry) → (point_behind from history).entry ≡ from.entry + length history
-            behind [] = omega arith
-            behind (entry ∷ earlier) = numbers_count (start_at from) (entry ∷ earlier)
-
-    of_greatest : Greatest last (start_at from) node (reverse entries) (length (reverse entries)) → (point : RestartPoint) × IsLatestPoint last from node entries point
-    of_greatest found =
-        let is : (point_before from entries found.number).entry ≡ found.number = numbered found.number found.sound in (
-          point_before from entries found.number,
-          record {
-            sound = record {
-              sound = subst (IsRestartEntry last (start_at from) node (reverse entries)) (sym is) found.sound;
-              parts = ap (point_before from entries) (sym is);
-            };
-            latest = λ number sound. subst (λ (n : ℕ). number ≤ n) (sym is) (found.greatest number sound.most sound);
-          },
-        )
+latest_is : (last : Key) (from : RestartPoint) (node : ℕ) (entries : List LogEntry) → IsLatestPoint last from node entries (latest_point last from node entries)
+latest_is last from node entries =
+    let start = start_at from in
+    let history = reverse entries in
+    let number = latest_number last start node history in
+    let least_of = sound_numbers last start node history from.entry (start_entry last start node history) in
+    let sound = numbers_sound last start node history number least_of (omega arith) in
+    let is : (latest_point last from node entries).entry ≡ number = numbered last from node entries number sound in
+    record {
+      sound = record {
+        sound = subst (IsRestartEntry last start node history) (sym is) sound;
+        parts = ap (point_before from entries) (sym is);
+      };
+      latest = λ other other_sound. subst (λ (n : ℕ). other ≤ n) (sym is) (sound_numbers last start node history other other_sound);
+    }
 
 pub one_latest_point : OneLatestPoint
 one_latest_point last from node entries =
-    let found = latest_exists last from node entries in
-    let point = found.0 in (
-      point,
-      found.1,
-      λ other is.
-          let low : other.entry ≤ point.entry = found.1.latest other.entry is.sound.sound in
-          let high : point.entry ≤ other.entry = is.latest point.entry found.1.sound.sound in
+    let found = latest_is last from node entries in
+    let point = latest_point last from node entries in
+    record {
+      is = found;
+      only = λ other is.
+          let low : other.entry ≤ point.entry = found.latest other.entry is.sound.sound in
+          let high : point.entry ≤ other.entry = is.latest point.entry found.sound.sound in
           let same : other.entry ≡ point.entry = omega (arith, low, high) in
-          is.sound.parts ∙ ap (point_before from entries) same ∙ sym found.1.sound.parts,
-    )
+          is.sound.parts ∙ ap (point_before from entries) same ∙ sym found.sound.parts;
+    }
 
 pub latest_never_falls : LatestNeverFalls
 latest_never_falls last later from node entries more point other low front is after =

@@ -1,5 +1,5 @@
 -- What is read from a restart point is the rest of the whole reading.
-use Rattle.std.proofs.Common.{◌≡◌, ◌⊎◌, ◌≤◌, ◌<◌, ℕ, zero, suc, ◌+◌, ◌-◌, min, inl, inr, leb, Bool, true, false, cond, ◌&&◌, if◌then◌else◌, List, [], ◌∷◌, ◌++◌, length, length-append, append_assoc, append-nil, map, filter, take, drop, find, reverse, Option, Some, None, is_none, ap, sym, subst, refl, ◌∙◌, arith}
+use Rattle.std.proofs.Common.{◌≡◌, ◌≤◌, ◌<◌, ℕ, zero, suc, ◌+◌, ◌-◌, min, inl, inr, leb, Bool, true, false, cond, ◌&&◌, if◌then◌else◌, List, [], ◌∷◌, ◌++◌, length, append_assoc, append-nil, map, filter, take, drop, reverse, Option, Some, None, is_none, ap, sym, subst, refl, ◌∙◌, arith}
 use Rattle.std.specs.List.{AllByRecursion}
 use Rattle.std.specs.Option.{option_map}
 use Rattle.std.specs.Ordering.{is_gt}
@@ -10,7 +10,6 @@ use Rattle.std.proofs.lemmas.Grind.{reverse_onto}
 use Rattle.cdc_base.specs.declared.key.Key.{Key}
 use Rattle.cdc_base.specs.declared.key.Key.TheVariants.{Shared, Plain as PlainKey}
 use Rattle.cdc_base.specs.declared.place.Place.{Place}
-use Rattle.cdc_base.specs.declared.xid.Xid.{Xid}
 use Rattle.cdc_base.specs.Key.{key_order}
 use Rattle.cdc_event.specs.File.{RestIsRead}
 use Rattle.cdc_model.specs.declared.entry.EntryKind.{EntryKind}
@@ -19,25 +18,23 @@ use Rattle.cdc_model.specs.declared.fault.NodeFault.{NodeFault}
 use Rattle.cdc_model.specs.declared.fault.NodeFault.TheVariants.{Sort}
 use Rattle.cdc_model.specs.declared.fault.SortFault.{SortFault}
 use Rattle.cdc_model.specs.declared.node_log.NodeLog.{NodeLog}
-use Rattle.cdc_model.specs.Records.{Row, LogEntry, CommittedBranch, OpenBranch, Start}
+use Rattle.cdc_model.specs.Records.{LogEntry, CommittedBranch, OpenBranch, Start}
 use Rattle.cdc_model.specs.Start.{find_open, next, left}
 use Rattle.cdc_model.specs.Watermark.{node_low_water_mark}
-use Rattle.cdc_model.specs.Soundness.{entry_fault, sound_entries, sort_fault, sort_or, log_fault, reached, AllSound}
+use Rattle.cdc_model.specs.Soundness.{sound_entries, sort_or, reached, AllSound}
 use Rattle.cdc_model.specs.Branch.{Begun, committed, branch_of, begun_branches}
 use Rattle.cdc_model.specs.Entries.{AreLogEntries}
 use Rattle.cdc_model.specs.Transaction.{node_branches}
-use Rattle.cdc_model.specs.SettledOrder.{IsFront}
 use Rattle.cdc_model.specs.ReadFrom.{AreEntriesReadFrom}
-use Rattle.cdc_model.specs.Restart.{RestartPoint, first_point, start_at, point_behind, point_before, IsAtMost, IsRestartEntry, IsRestartPoint, IsLatestPoint, ReadsTheRest, log_behind, RestartReadsTheRest, RestartPlaceReadsTheRest, PointsGoOn, RestartedPointsAreTheWholes}
+use Rattle.cdc_model.specs.Restart.{RestartPoint, first_point, start_at, point_behind, point_before, IsAtMost, IsRestartEntry, ReadsTheRest, RestartReadsTheRest, RestartPlaceReadsTheRest}
 use Rattle.cdc_model.proofs.Marks.{numbers_count}
-use Rattle.cdc_model.proofs.SameXid.{no_test}
 use Rattle.cdc_model.proofs.SoundFront.{left_append, left_behind, sound_is_longest}
 use Rattle.cdc_model.proofs.FaultOrder.{fault_behind}
 use Rattle.cdc_model.proofs.GrammarRows.{all_both, all_front, all_back}
 use Rattle.cdc_model.proofs.SoundGrowth.{begun_append}
 use Rattle.cdc_model.proofs.RestOfLog.{start_reads_all, rest_of_log_is_read}
-use Rattle.cdc_model.proofs.Keeping.{forget, kept, forget_late, forget_early, find_kept, left_kept, sound_kept, sort_fault_kept, mark_kept, number_grows, all_weaker, OpenedBefore, opened_before, start_before, point_is_kept, point_behind_append}
-use Rattle.cdc_model.proofs.RestartPoints.{at_most_itself, at_most_on, OpenFrom, BegunBelow, given_all, entry_stays, restart_point_stays}
+use Rattle.cdc_model.proofs.Keeping.{forget, kept, forget_late, forget_early, find_kept, left_kept, sound_kept, sort_fault_kept, mark_kept, number_grows, all_weaker, OpenedBefore, opened_before, start_before, point_is_kept}
+use Rattle.cdc_model.proofs.RestartPoints.{at_most_itself, BegunBelow, given_all, restart_point_stays}
 
 -- ---- branches that are new behind a number
 

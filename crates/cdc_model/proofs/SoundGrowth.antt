@@ -1,12 +1,12 @@
 -- The sound entries of a log that goes on, its low-water mark, and its further branches.
-use Rattle.std.proofs.Common.{◌≡◌, ◌≢◌, ◌≤◌, ◌<◌, ℕ, ◌+◌, min, max, leb, Bool, true, false, not, cond, if◌then◌else◌, List, [], ◌∷◌, ◌++◌, length, append_assoc, append-nil, map, filter, find, reverse, Option, Some, None, is_none, ap, sym, subst, refl, ◌∙◌, le_refl, arith}
-use Rattle.std.specs.List.{AllByRecursion, AllZip}
+use Rattle.std.proofs.Common.{◌≡◌, ◌≢◌, ◌≤◌, ◌<◌, ℕ, min, leb, Bool, true, false, not, cond, if◌then◌else◌, List, [], ◌∷◌, ◌++◌, append_assoc, append-nil, map, filter, find, reverse, Option, Some, None, is_none, ap, sym, subst, refl, ◌∙◌, le_refl, arith}
+use Rattle.std.specs.List.{AllByRecursion}
 use Rattle.std.specs.Ordering.{is_lt}
 use Rattle.std.proofs.lemmas.Bool.{leb-false}
 use Rattle.std.proofs.lemmas.Grind.{reverse_onto}
 use Rattle.std.proofs.lemmas.List.{reverse-append}
 use Rattle.cdc_base.specs.declared.key.Key.{Key}
-use Rattle.cdc_base.specs.declared.key.Key.TheVariants.{Shared, Plain as PlainKey}
+use Rattle.cdc_base.specs.declared.key.Key.TheVariants.{Shared}
 use Rattle.cdc_base.specs.declared.place.Place.{Place}
 use Rattle.cdc_base.specs.declared.xid.Xid.{Xid}
 use Rattle.cdc_event.specs.File.{FilesHaveOneReading, GrownFileContinues}
@@ -19,15 +19,15 @@ use Rattle.cdc_model.specs.declared.fault.SortFault.{SortFault}
 use Rattle.cdc_model.specs.declared.fault.SortFault.TheVariants.{Undercut}
 use Rattle.cdc_model.specs.declared.node_log.NodeLog.{NodeLog}
 use Rattle.cdc_model.specs.Records.{LogEntry, CommittedBranch, OpenBranch, Start}
-use Rattle.cdc_model.specs.Log.{IsLogPrefix, AreLogPrefixes}
-use Rattle.cdc_model.specs.Entries.{AreLogEntries, LengthensLog}
+use Rattle.cdc_model.specs.Log.{IsLogPrefix}
+use Rattle.cdc_model.specs.Entries.{LengthensLog}
 use Rattle.cdc_model.specs.Start.{beginning, find_open, without, enter, opened_by, next, left}
 use Rattle.cdc_model.specs.Watermark.{least, node_low_water_mark}
 use Rattle.cdc_model.specs.Soundness.{undercut, unless_open, when_open, entry_fault, sound_entries, fault_or, sort_fault, sort_or, log_fault, sound_history, reached, AllSound}
 use Rattle.cdc_model.specs.Branch.{Begun, committed, branch_of, begun_branches, is_new, new_branches}
 use Rattle.cdc_model.specs.Transaction.{node_branches}
 use Rattle.cdc_model.specs.SettledOrder.{IsFront}
-use Rattle.cdc_model.specs.Growth.{SoundPrefixGrows, SoundEntriesGrow, LogGrows, LogsGrow, IsReadWhole, ContinuedLogsGrow, LiesAbove, MarkRises, LowWaterMarkRises}
+use Rattle.cdc_model.specs.Growth.{SoundPrefixGrows, SoundEntriesGrow, LogGrows, IsReadWhole, ContinuedLogsGrow, LiesAbove, MarkRises, LowWaterMarkRises}
 use Rattle.cdc_model.proofs.SoundFront.{left_append, left_behind, sound_is_longest}
 use Rattle.cdc_model.proofs.LogReading.{continued_log_keeps_entries}
 use Rattle.cdc_model.proofs.XidOrder.{all_filtered}
@@ -225,7 +225,7 @@ commit_above low xid key timestamp number seconds (Some branch) floors is sound 
     let least : low ≤ branch.floor = floors branch refl in
     (subst (LiesAbove low) (sym is) (omega (arith, least, more)), tt)
 
-entry_above : (low node : ℕ) (kind : EntryKind) (start : Start) → StaysAbove low start → entry_fault kind start ≡ None → AboveLow low (branch_of node kind start)
+pub entry_above : (low node : ℕ) (kind : EntryKind) (start : Start) → StaysAbove low start → entry_fault kind start ≡ None → AboveLow low (branch_of node kind start)
 entry_above low node (Prepare xid rows) start reaches sound = tt
 entry_above low node (OnePhase xid rows timestamp seconds) start reaches sound =
     (one_phase_above low xid (find_open xid start.opened) timestamp start.mark reaches.mark sound, tt)
@@ -269,7 +269,7 @@ sound_rest start [] rest sound = sound
 sound_rest start (entry ∷ front) rest (here, sound) =
     subst (λ (s : Start). AllSound s rest) (left_behind start entry front) (sound_rest (next entry.kind start) front rest sound)
 
-new_above : (low : ℕ) (last : Key) (start : Start) (begun : List Begun) → AboveLow low begun
+pub new_above : (low : ℕ) (last : Key) (start : Start) (begun : List Begun) → AboveLow low begun
     → AllByRecursion (λ (branch : CommittedBranch). LiesAbove low branch.key) (new_branches last start begun)
 new_above low last start [] all = tt
 new_above low last start (b ∷ begun) (here, all) = by (is_new last start b) (new_above low last start begun all)
@@ -294,7 +294,7 @@ mark_rises last node old new start front rest old_start new_start old_is new_is 
     ap (λ (s : Start). new_branches last s (begun_branches s node (sound_history old))) old_start
     ∙ ap (λ (list : List LogEntry). new_branches last start (begun_branches start node (reverse list))) old_is in
     let new_all : node_branches last (node, new)
-        ≡ new_branches last start (begun_branches start node (reverse front)) ++ new_branches last start (begun_branches here node (reverse rest)) =
+    ≡ new_branches last start (begun_branches start node (reverse front)) ++ new_branches last start (begun_branches here node (reverse rest)) =
     ap (λ (s : Start). new_branches last s (begun_branches s node (sound_history new))) new_start
     ∙ ap (λ (list : List LogEntry). new_branches last start (begun_branches start node (reverse list))) new_is
     ∙ ap (λ (list : List LogEntry). new_branches last start (begun_branches start node list)) (reverse-append front rest)

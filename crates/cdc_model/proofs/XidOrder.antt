@@ -1,5 +1,5 @@
 -- The open branches stay in order of their xids.
-use Rattle.std.proofs.Common.{◌≡◌, ◌⊎◌, ◌<◌, ℕ, inl, inr, Bool, true, false, not, cond, List, [], ◌∷◌, filter, ap, sym, subst, refl, ◌∙◌, rules, arith}
+use Rattle.std.proofs.Common.{◌≡◌, ◌<◌, ℕ, inl, inr, Bool, true, false, not, cond, List, [], ◌∷◌, filter, ap, sym, refl, ◌∙◌, rules, arith}
 use Rattle.std.specs.List.{AllByRecursion}
 use Rattle.std.specs.Ordering.{nat_cmp, ordering_then, ordering_reverse, is_lt}
 use Rattle.std.specs.Cmp.{IsTotalOrder}
@@ -10,14 +10,14 @@ use Rattle.std.specs.declared.cmp.Ordering.TheVariants.{Less, Equal, Greater}
 use Rattle.std.proofs.lemmas.Bool.Decides.{nat_tests}
 use Rattle.std.proofs.lemmas.Map.Lookups.{exact_unsigned, exact_bytes}
 use Rattle.cdc_base.specs.declared.xid.Xid.{Xid}
+use Rattle.cdc_base.specs.Xid.{same_xid, xid_order}
 use Rattle.cdc_model.specs.declared.entry.EntryKind.{EntryKind}
 use Rattle.cdc_model.specs.declared.entry.EntryKind.TheVariants.{Prepare, OnePhase, Commit, Rollback, Plain, Beat}
-use Rattle.cdc_model.specs.Records.{LogEntry, OpenBranch, Start}
-use Rattle.cdc_base.specs.Xid.{same_xid, xid_order}
+use Rattle.cdc_model.specs.Records.{OpenBranch, Start}
 use Rattle.cdc_model.specs.Start.{without, enter, opened_by, left}
 use Rattle.cdc_model.specs.Openings.{IsXidBelow, AscendByXid, OpenBranchesAscend}
 use Rattle.cdc_model.proofs.OpenBranches.{same_xid_laws}
-use Rattle.cdc_model.proofs.SameXid.{no_test, same_xid_is, xid_of}
+use Rattle.cdc_model.proofs.SameXid.{no_test, xid_of}
 
 xid_order_total : IsTotalOrder xid_order
 xid_order_total = search (comparing, rules) depth 9

@@ -1,12 +1,12 @@
 -- Which branch a sound entry commits, by what stands before it in its log.
-use Rattle.std.specs.Prelude.{◌≡◌, ◌≤◌, ℕ, ◌+◌, List, [], ◌∷◌, ◌++◌, length, Some, None}
+use Rattle.std.specs.Prelude.{◌≡◌, ◌≤◌, ℕ, ◌+◌, List, [], ◌∷◌, ◌++◌, length, None}
 use Rattle.std.specs.List.{AllByRecursion}
 use Rattle.cdc_base.specs.declared.key.Key.{Key}
 use Rattle.cdc_base.specs.declared.key.Key.TheVariants.{Shared, Plain as PlainKey}
 use Rattle.cdc_base.specs.declared.xid.Xid.{Xid}
 use Rattle.cdc_model.specs.declared.entry.EntryKind.{EntryKind}
 use Rattle.cdc_model.specs.declared.entry.EntryKind.TheVariants.{Prepare, OnePhase, Commit, Rollback, Plain, Beat}
-use Rattle.cdc_model.specs.Records.{Row, LogEntry, CommittedBranch, OpenBranch, Start}
+use Rattle.cdc_model.specs.Records.{Row, LogEntry, OpenBranch, Start}
 use Rattle.cdc_model.specs.Start.{left}
 use Rattle.cdc_model.specs.Watermark.{high_water_mark}
 use Rattle.cdc_model.specs.Soundness.{entry_fault}

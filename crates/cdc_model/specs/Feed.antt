@@ -1,5 +1,5 @@
 -- What a node gives to a merge: branches, and a bound below which it gives no more.
-use Rattle.std.specs.Prelude.{◌≡◌, ◌≤◌, ℕ, Bool, true, false, List, [], ◌∷◌, ◌++◌, map, filter}
+use Rattle.std.specs.Prelude.{◌≡◌, ◌≤◌, ℕ, true, false, List, ◌++◌, map, filter}
 use Rattle.std.specs.List.{AllByRecursion, AllZip, flat_map, enumerate_from}
 use Rattle.cdc_base.specs.declared.key.Key.{Key}
 use Rattle.cdc_model.specs.declared.node_log.NodeLog.{NodeLog}

@@ -1,5 +1,5 @@
 -- The fault of a log: its first unsound entry's, before the one that ended its entries.
-use Rattle.std.specs.Prelude.{◌≡◌, ℕ, List, [], ◌∷◌, ◌++◌, reverse, Option, Some, None, MatchOption}
+use Rattle.std.specs.Prelude.{◌≡◌, List, ◌∷◌, ◌++◌, reverse, Option, Some, MatchOption}
 use Rattle.cdc_base.specs.declared.place.Place.{Place}
 use Rattle.cdc_model.specs.declared.fault.SortFault.{SortFault}
 use Rattle.cdc_model.specs.declared.fault.NodeFault.{NodeFault}

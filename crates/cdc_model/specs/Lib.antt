@@ -24,3 +24,5 @@ pub mod ReadFrom
 pub mod GrammarRows
 pub mod Growth
 pub mod Restart
+pub mod OneFile
+pub mod NodeReading

@@ -1,5 +1,5 @@
 -- Restart points: from where the log of a node may be read again, and what stands open there.
-use Rattle.std.specs.Prelude.{◌≡◌, ◌≤◌, ◌<◌, ℕ, ◌+◌, ◌-◌, false, List, [], ◌∷◌, ◌++◌, length, map, take, drop, reverse, Option}
+use Rattle.std.specs.Prelude.{◌≡◌, ◌≤◌, ◌<◌, ◌↔◌, ℕ, ◌+◌, ◌-◌, nat_le, false, List, [], ◌∷◌, ◌++◌, length, map, filter, take, drop, reverse, Option}
 use Rattle.std.specs.List.{AllByRecursion, AllZip, enumerate_from}
 use Rattle.std.specs.Ordering.{is_gt}
 use Rattle.cdc_base.specs.declared.key.Key.{Key}
@@ -10,11 +10,11 @@ use Rattle.cdc_base.specs.Key.{key_order, first_key}
 use Rattle.cdc_model.specs.declared.fault.NodeFault.{NodeFault}
 use Rattle.cdc_model.specs.declared.fault.NodeFault.TheVariants.{Sort}
 use Rattle.cdc_model.specs.declared.node_log.NodeLog.{NodeLog}
-use Rattle.cdc_model.specs.Records.{LogEntry, OpenBranch, Start, Transaction}
+use Rattle.cdc_model.specs.Records.{LogEntry, OpenBranch, Start}
 use Rattle.cdc_model.specs.Start.{left}
-use Rattle.cdc_model.specs.Watermark.{node_low_water_mark}
+use Rattle.cdc_model.specs.Watermark.{least, node_low_water_mark}
 use Rattle.cdc_model.specs.Soundness.{sound_entries, log_fault, reached}
-use Rattle.cdc_model.specs.Branch.{Begun, begun_branches}
+use Rattle.cdc_model.specs.Branch.{Begun, begun_branches, is_new}
 use Rattle.cdc_model.specs.Entries.{AreLogEntries}
 use Rattle.cdc_model.specs.Transaction.{node_branches, logs_low_water_mark, ordered_transactions, settled_transactions, oversized_transaction, key_at}
 use Rattle.cdc_model.specs.Commits.{IsStart}
@@ -81,6 +81,18 @@ pub record IsLatestPoint (last : Key) (from : RestartPoint) (node : ℕ) (entrie
   pub sound : IsRestartPoint last from node entries point
   pub latest : (number : ℕ) → IsRestartEntry last (start_at from) node (reverse entries) number → number ≤ point.entry
 
+-- the number of the latest: the least of the next entry's, of those of the Prepares that wait from the start on, and of those with
+-- which branches with greater keys began
+abbrev pub latest_number : Key → Start → ℕ → List LogEntry → ℕ
+latest_number last start node history =
+    least (left start history).entry
+    (map (λ (branch : OpenBranch). branch.entry) (filter (λ (branch : OpenBranch). nat_le start.entry branch.entry) (left start history).opened)
+    ++ map (λ (b : Begun). b.0) (filter (is_new last start) (begun_branches start node history)))
+
+-- the latest restart point itself
+abbrev pub latest_point : Key → RestartPoint → ℕ → List LogEntry → RestartPoint
+latest_point last from node entries = point_before from entries (latest_number last (start_at from) node (reverse entries))
+
 -- ---- laws of one node
 
 -- law: a reading's start is a restart point for every key
@@ -92,11 +104,18 @@ abbrev pub RestartPointStays : Type 0
 RestartPointStays = (last later : Key) (from : RestartPoint) (node : ℕ) (entries more : List LogEntry) (point : RestartPoint)
     → IsAtMost last later → IsFront entries more → IsRestartPoint last from node entries point → IsRestartPoint later from node more point
 
--- law: there is a latest restart point, and one alone
+-- law: the sound numbers are those from the start's up to the latest one
+abbrev pub SoundNumbersEnd : Type 0
+SoundNumbersEnd = (last : Key) (start : Start) (node : ℕ) (history : List LogEntry) (number : ℕ)
+    → IsRestartEntry last start node history number ↔ ((start.entry ≤ number) × (number ≤ latest_number last start node history))
+
+-- law: there is a latest restart point, and it is the only one
+pub record HasLatestPoint (last : Key) (from : RestartPoint) (node : ℕ) (entries : List LogEntry) : Type 0 where
+  pub is : IsLatestPoint last from node entries (latest_point last from node entries)
+  pub only : (other : RestartPoint) → IsLatestPoint last from node entries other → other ≡ latest_point last from node entries
+
 abbrev pub OneLatestPoint : Type 0
-OneLatestPoint = (last : Key) (from : RestartPoint) (node : ℕ) (entries : List LogEntry)
-    → (point : RestartPoint) × IsLatestPoint last from node entries point
-    × ((other : RestartPoint) → IsLatestPoint last from node entries other → other ≡ point)
+OneLatestPoint = (last : Key) (from : RestartPoint) (node : ℕ) (entries : List LogEntry) → HasLatestPoint last from node entries
 
 -- law: the latest restart point never falls
 abbrev pub LatestNeverFalls : Type 0

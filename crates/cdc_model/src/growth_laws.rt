@@ -2,6 +2,7 @@
 //! ensures its law, so that the check proves it.
 
 ghost use Rattle.cdc_model.specs.Growth.{SoundPrefixGrows, SoundEntriesGrow, ContinuedLogsGrow, LowWaterMarkRises, LeastMarkRises, SettledOrderGrows, OutputOfMoreGoesOn, OutputOnlyGrows};
+ghost use Rattle.cdc_model.specs.OneFile.{OneFileEnds};
 
 use cdc_event::{file_is_read_in_one_way, grown_file_continues};
 
@@ -51,4 +52,9 @@ pub fn output_of_more_goes_on()
 /// room for stays.
 pub fn output_grows()
     ensures { OutputOnlyGrows }
+{}
+
+/// A law: the one file has all prints where all fit, else those before the first one that would pass its last place.
+pub fn one_file_ends()
+    ensures { OneFileEnds }
 {}

@@ -9,6 +9,7 @@ mod branch;
 mod entry;
 mod entry_laws;
 mod fault;
+mod feed_laws;
 mod grammar_laws;
 mod growth_laws;
 mod laws;
@@ -30,13 +31,14 @@ pub use entry_laws::{
     open_branches_ascend, open_is_newest_prepare, sort_fault_is_first,
 };
 pub use fault::{GroupFault, NodeFault, SortFault};
+pub use feed_laws::{feed_begins, feed_gives, feed_reads_on, feed_tells, node_settled_in_order};
 pub use grammar_laws::{
     continued_log_keeps_entries, each_log_has_entries, entries_are_read_in_one_way,
     events_have_entries, fitting_events_are_read, fronts_fit, log_has_one_entry_list,
     misfits_are_told, unfinished_item_is_one,
 };
 pub use growth_laws::{
-    continued_logs_grow, least_mark_rises, low_water_mark_rises, output_grows,
+    continued_logs_grow, least_mark_rises, low_water_mark_rises, one_file_ends, output_grows,
     output_of_more_goes_on, settled_order_grows, sound_entries_grow, sound_prefix_grows,
 };
 pub use laws::{
@@ -57,9 +59,8 @@ pub use reading_laws::{
 };
 pub use restart_laws::{
     latest_never_falls, one_latest_point, restart_gives_the_rest, restart_place_reads_the_rest,
-    restart_point_is_start,
-    restart_point_stays, restart_reads_the_rest, restarted_points_are_the_wholes,
-    start_is_restart_point,
+    restart_point_is_start, restart_point_stays, restart_reads_the_rest,
+    restarted_points_are_the_wholes, sound_numbers_end, start_is_restart_point,
 };
 pub use rows::{RowList, share_rows};
 pub use start::StartingPoint;

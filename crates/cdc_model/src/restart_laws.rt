@@ -1,7 +1,7 @@
 //! The laws of restart points: which points of a log are such, and what is read from there. Each function ensures its law,
 //! so that the check proves it.
 
-ghost use Rattle.cdc_model.specs.Restart.{StartIsRestartPoint, RestartPointStays, OneLatestPoint, LatestNeverFalls, RestartPointIsStart, RestartReadsTheRest, RestartPlaceReadsTheRest, RestartedPointsAreTheWholes, RestartGivesTheRest};
+ghost use Rattle.cdc_model.specs.Restart.{StartIsRestartPoint, RestartPointStays, SoundNumbersEnd, OneLatestPoint, LatestNeverFalls, RestartPointIsStart, RestartReadsTheRest, RestartPlaceReadsTheRest, RestartedPointsAreTheWholes, RestartGivesTheRest};
 
 use cdc_event::rest_is_read;
 
@@ -13,6 +13,12 @@ pub fn start_is_restart_point()
 /// A law: a restart point stays one for a greater key and in a longer log.
 pub fn restart_point_stays()
     ensures { RestartPointStays }
+{}
+
+/// A law: the sound numbers are those from the start's up to the latest one: the least of the next entry's, of those of the
+/// Prepares that wait, and of those with which branches with greater keys began.
+pub fn sound_numbers_end()
+    ensures { SoundNumbersEnd }
 {}
 
 /// A law: there is a latest restart point, and one alone.
