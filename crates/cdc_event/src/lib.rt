@@ -21,7 +21,7 @@ mod writing;
 pub use body::Body;
 pub use event::Event;
 pub use fault::{EventFault, FileFault, ReadError};
-pub use header::{HEADER_LENGTH, Header, LENGTH_MAX, check_length, read_header};
+pub use header::{HEADER_LENGTH, Header, LENGTH_MAX, MAGIC, check_length, read_header};
 pub use laws::{
     each_file_is_read, events_and_bytes_correspond, faults_are_told_apart, file_is_read_in_one_way,
     grown_file_continues, no_event_begins_another, rest_is_read, what_is_written_is_read,
