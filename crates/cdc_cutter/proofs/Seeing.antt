@@ -8,10 +8,8 @@ use Rattle.cdc_event.specs.declared.event.Event.{Event}
 use Rattle.cdc_event.specs.declared.fault.EventFault.{EventFault}
 use Rattle.cdc_event.specs.declared.fault.ReadError.{ReadError}
 use Rattle.cdc_event.specs.declared.view.EventView.{EventView}
-use Rattle.cdc_event.specs.Length.{HasGoodLength}
-use Rattle.cdc_event.specs.Reading.{event_of}
 use Rattle.cdc_event.specs.File.{BeginsWith, is_misplaced, IsFaulty}
-use Rattle.cdc_event.specs.View.{event_viewed, result_viewed}
+use Rattle.cdc_event.specs.{HasGoodLength, event_of, event_viewed, result_viewed}
 use Rattle.cdc_event.proofs.Fields.{range_bytes}
 use Rattle.cdc_event.proofs.Whole.{Premises}
 use Rattle.cdc_event.proofs.Faults.{gives_event, gives_known, fault_to}

@@ -1,7 +1,8 @@
 //! The events of a node's log, as the MySQL binary log (version 4) spells them.
 //!
 //! An event is a header of 19 bytes and a body; `specs/Event.antt` says which bytes spell which event.
-//! Called by the readers and printers of logs: the thin reader of `cdc_top`, `cdc_writer`.
+//! `read_view` reads an event in place, `read_owned_body` one that shares its bytes, `write_event` writes one.
+//! Called by the cutter and the writer of logs.
 #![tactic(auto)]
 
 mod body;
@@ -14,6 +15,7 @@ mod number;
 mod offsets;
 mod reading;
 mod sharing;
+mod size;
 mod view;
 mod view_reading;
 mod writing;
