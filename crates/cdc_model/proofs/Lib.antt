@@ -43,3 +43,4 @@ mod OneFileEnd
 mod NodeFeeds
 mod WorkedLaws
 mod WorkedRestart
+mod NodePoints

@@ -26,3 +26,4 @@ pub mod Growth
 pub mod Restart
 pub mod OneFile
 pub mod NodeReading
+pub mod RestartNodes

@@ -1,6 +1,6 @@
 -- What entries leave behind them. A history is a list of entries, the newest first; it leaves the starting
 -- point of all that comes later, and the definitions of faults, water marks and branches read that alone.
-use Rattle.std.specs.Prelude.{ℕ, ◌+◌, ◌==◌, ◌&&◌, not, max, Bool, List, [], ◌∷◌, if◌then◌else◌, nat_eq, filter, Option}
+use Rattle.std.specs.Prelude.{ℕ, ◌+◌, not, max, List, [], ◌∷◌, if◌then◌else◌, filter, Option}
 use Rattle.std.specs.List.{find}
 use Rattle.std.specs.Ordering.{is_lt}
 use Rattle.cdc_base.specs.declared.xid.Xid.{Xid}
