@@ -1,5 +1,5 @@
 -- What each key of a configuration gives; none where the key is refused.
-use Rattle.std.specs.Prelude.{◌≡◌, ℕ, ◌==◌, ◌&&◌, ◌^◌, not, nat_le, if◌then◌else◌, Bool, true, List, [], ◌∷◌, map, length, codes, is_none, Option, Some, None, option_map, option_and_then, Result, Ok, Err, ⊤}
+use Rattle.std.specs.Prelude.{◌≡◌, ℕ, ◌==◌, ◌&&◌, not, if◌then◌else◌, Bool, true, List, [], ◌∷◌, map, length, codes, is_none, Option, Some, None, option_map, option_and_then, Result, Ok, Err, ⊤}
 use Rattle.std.specs.List.{list_all}
 use Rattle.std.specs.Result.{result_ok}
 use Rattle.hex.specs.Hex.{decode_sized}
@@ -13,7 +13,6 @@ use Rattle.cdc_config.specs.declared.parts.OutTable.{OutTable}
 use Rattle.cdc_config.specs.declared.parts.TableNames.{TableNames}
 use Rattle.cdc_config.specs.declared.plan.SplitPlan.{SplitPlan}
 use Rattle.cdc_config.specs.declared.plan.User.{User}
-use Rattle.cdc_config.specs.declared.shape.Shape.{Shape}
 use Rattle.cdc_config.specs.declared.shape.Shape.TheVariants as shape
 use Rattle.cdc_config.specs.Tree.{array_of, are_distinct, if_passed, is_among, is_shaped, path_text, sized_text, whole_number}
 
@@ -78,16 +77,22 @@ folder_from value = if is_shaped shape.Task value then part_at path_text (codes 
 unfoldable pub task_from : List (List ℕ) → Data → Option (List ℕ)
 task_from taken root = option_and_then (λ folder. if_passed (not (is_among folder taken)) folder) (part_at folder_from (codes "task") root)
 
+abbrev pub table_names : List ℕ → List ℕ → TableNames
+table_names db table = record { db = db; table = table }
+
 -- a database and a table, of 1 to 64 bytes each, at two keys
 abbrev pub table_at : List ℕ → List ℕ → Data → Option TableNames
-table_at db table value =
-    option_and_then (λ d. option_map (λ t. record { db = d; table = t }) (part_at (sized_text 1 64) table value)) (part_at (sized_text 1 64) db value)
+table_at db table value = option_and_then (λ d. option_map (table_names d) (part_at (sized_text 1 64) table value)) (part_at (sized_text 1 64) db value)
+
+-- a rule from a table's names to others
+abbrev pub rule_with : TableNames → TableNames → Rename
+rule_with old new = record { db = old.db; table = old.table; to_db = new.db; to_table = new.table }
 
 -- one rule: the names of a table, and its new names
 abbrev pub rule_from : Data → Option Rename
 rule_from value =
     if is_shaped shape.Table value
-    then option_and_then (λ (old : TableNames). option_map (λ (new : TableNames). record { db = old.db; table = old.table; to_db = new.db; to_table = new.table }) (table_at (codes "to_db") (codes "to_table") value)) (table_at (codes "db") (codes "table") value)
+    then option_and_then (λ old. option_map (rule_with old) (table_at (codes "to_db") (codes "to_table") value)) (table_at (codes "db") (codes "table") value)
     else None
 
 -- no two rules are for one table

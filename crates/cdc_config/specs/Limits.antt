@@ -1,6 +1,5 @@
 -- The limits that a plan keeps.
 use Rattle.std.specs.Prelude.{◌≡◌, ℕ, ◌≤◌, ◌^◌, length, List, Option}
-use Rattle.std.specs.List.{AllByRecursion}
 use Rattle.std.specs.Option.{ForSome}
 use Rattle.cdc_config.specs.declared.plan.Paths.{Paths}
 use Rattle.cdc_config.specs.declared.plan.SplitPlan.{SplitPlan}

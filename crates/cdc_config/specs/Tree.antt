@@ -1,8 +1,8 @@
 -- What the values of a configuration's tree give.
 use Rattle.std.specs.Prelude.{◌≡◌, ℕ, ◌==◌, ◌&&◌, not, nat_le, nat_eq, if◌then◌else◌, ℤ, pos, negsuc, Bool, true, false, List, [], ◌∷◌, length, codes, Option, Some, None, option_map, option_and_then, Result, Ok, Err, ⊤}
-use Rattle.std.specs.List.{list_any, list_all}
+use Rattle.std.specs.List.{list_any}
 use Rattle.std.specs.Cmp.Lexicographic.{pointwise}
-use Rattle.toml.specs.Data.{Data, table, Items, no_items, item, Members, no_members, member, as_array, as_integer, as_str, as_table}
+use Rattle.toml.specs.Data.{Data, table, Items, no_items, item, Members, no_members, member, as_array, as_integer, as_str}
 use Rattle.cdc_config.specs.declared.misfit.Misfit.{Misfit}
 use Rattle.cdc_config.specs.declared.misfit.Misfit.TheVariants as misfit
 use Rattle.cdc_config.specs.declared.shape.Shape.{Shape}

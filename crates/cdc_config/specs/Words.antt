@@ -5,7 +5,6 @@ use Rattle.cdc_config.specs.declared.command.Command.{Command}
 use Rattle.cdc_config.specs.declared.command.Command.TheVariants as command
 use Rattle.cdc_config.specs.declared.command.Refusal.{Refusal}
 use Rattle.cdc_config.specs.declared.command.Refusal.TheVariants as refusal
-use Rattle.cdc_config.specs.declared.options.Options.{Options}
 use Rattle.cdc_config.specs.declared.verb.Verb.{Verb}
 use Rattle.cdc_config.specs.declared.verb.Verb.TheVariants as verb
 use Rattle.cdc_config.specs.declared.words.Server.{Server}

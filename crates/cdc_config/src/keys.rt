@@ -14,13 +14,14 @@ use crate::misfit::Misfit;
 use crate::parts::{OutTable, path_at};
 use crate::plan::{SplitPlan, TextLists, User, UserList};
 use crate::shape::Shape;
-use crate::tree::{array_of, are_distinct, is_among, value_at, whole_number};
+use crate::tree::{are_distinct, array_of, is_among, value_at, whole_number};
 use cdc_base::{Items, Memory, Rename, RenameList, Text, TextList};
 use std::alloc::Global;
 use toml::Value;
 
 /// The most nodes and outs.
 const NODES_MAX: usize = 256;
+
 const OUTS_MAX: usize = 4;
 
 /// The most rules.
@@ -31,6 +32,7 @@ const USERS_MAX: usize = 256;
 
 /// The fewest and the most folders of a split.
 const STREAMS_MIN: usize = 2;
+
 const STREAMS_MAX: usize = 16;
 
 // A number at a key, or a default where it isn't there.
