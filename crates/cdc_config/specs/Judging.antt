@@ -23,9 +23,11 @@ use Rattle.cdc_config.specs.Tree.{is_shaped}
 abbrev pub size_keys : List ConfigKey
 size_keys = key.Rotation ∷ key.Window ∷ []
 
+-- the keys of what is read and written, in the order in which they are tested
 abbrev pub path_keys : List ConfigKey
 path_keys = key.Node ∷ key.Out ∷ key.Task ∷ []
 
+-- the keys that may be left out, and unknown ones, in the order in which they are tested
 abbrev pub extra_keys : List ConfigKey
 extra_keys = key.Table ∷ key.User ∷ key.Split ∷ key.Unknown ∷ []
 

@@ -62,6 +62,7 @@ out_from value =
 abbrev pub folders_of : List OutTable → List (List ℕ)
 folders_of outs = map (λ (out : OutTable). out.folder) outs
 
+-- where each out listens; empty where it does not
 abbrev pub addresses_of : List OutTable → List (List ℕ)
 addresses_of outs = map (λ (out : OutTable). out.listen) outs
 
@@ -77,6 +78,7 @@ folder_from value = if is_shaped shape.Task value then part_at path_text (codes 
 unfoldable pub task_from : List (List ℕ) → Data → Option (List ℕ)
 task_from taken root = option_and_then (λ folder. if_passed (not (is_among folder taken)) folder) (part_at folder_from (codes "task") root)
 
+-- the names of a table
 abbrev pub table_names : List ℕ → List ℕ → TableNames
 table_names db table = record { db = db; table = table }
 
@@ -112,6 +114,7 @@ user_name value = option_and_then (λ name. if_passed (list_all (λ byte. not (b
 abbrev pub hash_from : List ℕ → Option (Option (List ℕ))
 hash_from text = if length text == 0 then Some None else option_map Some (result_ok (decode_sized text 20))
 
+-- a user's password hash, or none where the text is empty
 abbrev pub user_hash : Data → Option (Option (List ℕ))
 user_hash value = option_and_then hash_from (as_str value)
 
@@ -122,6 +125,7 @@ user_from value =
     then option_and_then (λ name. option_map (λ hash. record { name = name; hash = hash }) (part_at user_hash (codes "hash") value)) (part_at user_name (codes "name") value)
     else None
 
+-- the names of users
 abbrev pub names_of : List User → List (List ℕ)
 names_of users = map (λ (user : User). user.name) users
 
@@ -145,6 +149,7 @@ split_table outs taken value =
     then option_and_then (λ from. option_map (λ folders. record { from = from; folders = folders }) (part_at (stream_folders taken) (codes "folders") value)) (part_at (whole_number 1 outs) (codes "from") value)
     else None
 
+-- how the output is split, or not at all where the key is absent
 abbrev pub split_with : ℕ → List (List ℕ) → Option Data → Option (Option SplitPlan)
 split_with outs taken None = Some None
 split_with outs taken (Some value) = option_map Some (split_table outs taken value)

@@ -25,6 +25,7 @@ abbrev pub number_between : ℕ → ℕ → ℤ → Option ℕ
 number_between least most (pos number) = if_passed (nat_le least number && nat_le number most) number
 number_between least most (negsuc number) = None
 
+-- a whole number of a range, or none
 abbrev pub whole_number : ℕ → ℕ → Data → Option ℕ
 whole_number least most value = option_and_then (number_between least most) (as_integer value)
 

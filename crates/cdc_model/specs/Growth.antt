@@ -40,6 +40,7 @@ pub record LogGrows (old new : NodeLog) : Type 0 where
   pub same_start : new.start ≡ old.start
   pub front : IsFront (sound_entries old.start old.entries) (sound_entries new.start new.entries)
 
+-- the logs of all nodes have gone on
 abbrev pub LogsGrow : List NodeLog → List NodeLog → Type 0
 LogsGrow olds news = AllZip LogGrows olds news
 
@@ -95,6 +96,7 @@ pub record OutputOfMore (rules : List Rename) (rotation : ℕ) (txns more : List
   pub files : IsLogPrefix (files_of rules rotation txns) (files_of rules rotation more)
   pub whole : Continues (one_file txns) (one_file more)
 
+-- law: the output of more transactions goes on with that of fewer
 abbrev pub OutputOfMoreGoesOn : Type 0
 OutputOfMoreGoesOn = (rules : List Rename) (rotation : ℕ) (txns more : List Transaction) → IsFront txns more → OutputOfMore rules rotation txns more
 

@@ -33,6 +33,7 @@ no_feed = record { branches = []; bound = 0 }
 abbrev pub feed_with : NodeFeed → CommittedBranch → NodeFeed
 feed_with feed branch = record { branches = feed.branches ++ branch ∷ []; bound = feed.bound }
 
+-- a feed whose bound is told anew
 abbrev pub feed_told : NodeFeed → ℕ → NodeFeed
 feed_told feed bound = record { branches = feed.branches; bound = bound }
 
@@ -46,6 +47,7 @@ pub record ReadsOn (last : Key) (start : Start) (node : ℕ) (history : List Log
   pub settled : IsFront (node_settled last start node history) (node_settled last start node (entry ∷ history))
   pub feeds : (feed : NodeFeed) → FeedsBehind last start node history feed → FeedsBehind last start node (entry ∷ history) feed
 
+-- law: one sound entry more leaves what a node settles a front, and its feed a feed
 abbrev pub FeedReadsOn : Type 0
 FeedReadsOn = (last : Key) (start : Start) (node : ℕ) (history : List LogEntry) (entry : LogEntry)
     → entry_fault entry.kind (left start history) ≡ None → ReadsOn last start node history entry
@@ -55,6 +57,7 @@ pub record GivesOn (mark : ℕ) (committed : List CommittedBranch) (feed : NodeF
   pub feeds : FeedsFrom mark committed (feed_with feed branch)
   pub grows : FeedGrows feed (feed_with feed branch)
 
+-- law: a node gives its next settled branch, and its feed grows
 abbrev pub FeedGives : Type 0
 FeedGives = (mark : ℕ) (committed : List CommittedBranch) (feed : NodeFeed) (branch : CommittedBranch)
     → FeedsFrom mark committed feed → IsFront (feed.branches ++ branch ∷ []) (settled_branches mark committed) → GivesOn mark committed feed branch
@@ -64,6 +67,7 @@ pub record TellsOn (mark : ℕ) (committed : List CommittedBranch) (feed : NodeF
   pub feeds : FeedsFrom mark committed (feed_told feed mark)
   pub grows : FeedGrows feed (feed_told feed mark)
 
+-- law: a node that has given all it settles may tell its low-water mark
 abbrev pub FeedTells : Type 0
 FeedTells = (mark : ℕ) (committed : List CommittedBranch) (feed : NodeFeed)
     → FeedsFrom mark committed feed → feed.branches ≡ settled_branches mark committed → TellsOn mark committed feed
@@ -72,6 +76,7 @@ FeedTells = (mark : ℕ) (committed : List CommittedBranch) (feed : NodeFeed)
 abbrev pub StandsBefore : CommittedBranch → CommittedBranch → Type 0
 StandsBefore a b = (key_order a.key b.key ≡ Less) ⊎ ((a.key ≡ b.key) × (a.entry < b.entry))
 
+-- branches stand by key, and those of one key by entry
 abbrev pub StandInOrder : List CommittedBranch → Type 0
 StandInOrder [] = Unit {0}
 StandInOrder (branch ∷ branches) = AllByRecursion (StandsBefore branch) branches × StandInOrder branches
@@ -82,6 +87,7 @@ pub record IsNodeOrder (last : Key) (mark : ℕ) (branches : List CommittedBranc
   pub settled : AllByRecursion (λ (branch : CommittedBranch). is_settled mark branch.key ≡ true) branches
   pub above : AllByRecursion (λ (branch : CommittedBranch). is_gt (key_order branch.key last) ≡ true) branches
 
+-- law: what a node settles stands in order, settled, above the last key
 abbrev pub NodeSettledInOrder : Type 0
 NodeSettledInOrder = (last : Key) (mark : ℕ) (start : Start) (node : ℕ) (history : List LogEntry)
     → IsNodeOrder last mark (settled_branches mark (committed_branches last start node history))

@@ -114,6 +114,7 @@ pub record HasLatestPoint (last : Key) (from : RestartPoint) (node : ℕ) (entri
   pub is : IsLatestPoint last from node entries (latest_point last from node entries)
   pub only : (other : RestartPoint) → IsLatestPoint last from node entries other → other ≡ latest_point last from node entries
 
+-- law: there is a latest restart point, and one alone
 abbrev pub OneLatestPoint : Type 0
 OneLatestPoint = (last : Key) (from : RestartPoint) (node : ℕ) (entries : List LogEntry) → HasLatestPoint last from node entries
 
@@ -164,6 +165,7 @@ pub record PointsGoOn (last : Key) (from point : RestartPoint) (node : ℕ) (bef
       → IsRestartPoint last point node behind other
   pub latest : (other : RestartPoint) → IsLatestPoint last point node behind other → IsLatestPoint last from node (before ++ behind) other
 
+-- law: the restart points of a resumed reading are the whole log's from there on
 abbrev pub RestartedPointsAreTheWholes : Type 0
 RestartedPointsAreTheWholes = (last later : Key) (from point : RestartPoint) (node : ℕ) (before behind : List LogEntry)
     → 1 ≤ from.entry → IsAtMost last later → point.entry ≡ from.entry + length before
