@@ -6,7 +6,7 @@ ghost use Rattle.cdc_event.specs.declared.fault.FileFault.{FileFault};
 
 use crate::logs::log_of;
 use cdc_base::Memory;
-use cdc_cutter::{Cut, Cutter};
+use cdc_cutter::{Cut, Cutter, Peek};
 use std::alloc::Global;
 use std::test::Fail;
 
@@ -26,6 +26,22 @@ fn count_events(alloc: Global, file: &[u8]) -> Result<Option<usize>, Memory>
     Ok(None)
 }
 
+/// The same, with the events in place.
+fn count_in_place(alloc: Global, file: &[u8]) -> Result<Option<usize>, Memory>
+    requires { length file.now < 2 ^ 54 }
+    ensures { IfOk result (λ counted. IfSome counted (λ count. (events : List PlacedEvent) × (fault : Option (ℕ × FileFault)) × AreFileEvents file.now events fault × (count ≡ length events))) }
+{
+    let mut cutter = Cutter::new(alloc)?;
+    cutter.feed(file)?;
+    for count in 0..file.len() {
+        match cutter.peek() {
+            Peek::Event { end, checksum, .. } => cutter.pass(end, checksum),
+            Peek::Need | Peek::Fault { .. } => return Ok(Some(count)),
+        }
+    }
+    Ok(None)
+}
+
 #[test]
 fn a_file_has_so_many_events(rt: HostRuntime) -> Result<(), Fail> {
     for (words, wanted) in [
@@ -39,6 +55,7 @@ fn a_file_has_so_many_events(rt: HostRuntime) -> Result<(), Fail> {
             return Err("a log of this length is no test")?;
         }
         assert_eq!(&rt; count_events(rt.alloc(), &log)?, Some(wanted), "{words}");
+        assert_eq!(&rt; count_in_place(rt.alloc(), &log)?, Some(wanted), "{words}");
     }
     Ok(())
 }
