@@ -16,8 +16,9 @@ use cdc_files::{StdSink, StdStream};
 use cdc_outside::Sink;
 use cdc_top::top;
 use std::alloc::Global;
-use std::fs::Files;
+use std::fs::{Files, OpenFile};
 use std::io::Write;
+use std::os::unix::fs::FileExt;
 use std::process::ExitCode;
 use std::rt::Env;
 
@@ -25,7 +26,7 @@ use std::rt::Env;
 const NO_MEMORY: u8 = 8;
 
 /// Answers the words of the command line.
-fn answer<R: AllocGlobal + Env + Files, W: Write + Drop>(
+fn answer<F: FileExt + OpenFile + Drop, R: AllocGlobal + Env + Files<File = F>, W: Write + Drop>(
     rt: &R,
     out: &mut StdSink<W>,
     err: &mut StdSink<W>,
