@@ -1,10 +1,21 @@
 //! Bytes that are shared, not copied.
 
 ghost use Rattle.std.specs.Prelude.{◌≡◌, ◌≤◌, ◌==◌, [], length, take, drop, slice_range, IfOk};
+ghost use Rattle.cdc_base.specs.Bytes.{AreBytes};
 
 use crate::memory::Memory;
 use bytes::Bytes;
+use std::alloc::Global;
 use std::marker::Model;
+
+// The same bytes, each of which is one.
+pub(crate) fn plain(bytes: &[u8]) -> &[u8]
+    ensures value { result.now ≡ bytes.now }
+    ensures each { AreBytes bytes.now }
+{
+    let plain = bytes;
+    plain
+}
 
 /// Shared bytes, seen as the list of them. A part of a blob shares the bytes of the whole.
 #[derive(Debug, Drop)]
@@ -18,6 +29,10 @@ impl Model for Blob {
     ghost Value = { List ℕ };
 
     ghost view = { λ blob. blob.bytes };
+
+    ghost use Rattle.cdc_base.specs.Bytes.{AreBytes};
+
+    ghost invariant = { λ blob. AreBytes blob.bytes };
 }
 
 impl Blob {
@@ -25,7 +40,15 @@ impl Blob {
     pub fn from_bytes(bytes: Bytes) -> Blob
         ensures { result ≡ bytes }
     {
+        let _bytes = plain(bytes.as_slice());
         Blob { bytes }
+    }
+
+    /// A blob over a copy of these bytes.
+    pub fn copy_of(alloc: Global, bytes: &[u8]) -> Result<Blob, Memory>
+        ensures { IfOk result (λ blob. blob ≡ bytes.now) }
+    {
+        Ok(Blob::from_bytes(Bytes::copy_from_slice(alloc, bytes)?))
     }
 
     /// No bytes, which takes no memory.
@@ -39,9 +62,10 @@ impl Blob {
 
     /// The bytes.
     pub fn bytes(&self) -> &[u8]
-        ensures { result.now ≡ self.now }
+        ensures value { result.now ≡ self.now }
+        ensures each { AreBytes self.now }
     {
-        self.bytes.as_slice()
+        plain(self.bytes.as_slice())
     }
 
     /// How many bytes there are.
@@ -64,9 +88,7 @@ impl Blob {
         requires within { to ≤ length self.now }
         ensures { IfOk result (λ part. part ≡ slice_range self.now from to) }
     {
-        Ok(Blob {
-            bytes: self.bytes.slice(from..to)?,
-        })
+        Ok(Blob::from_bytes(self.bytes.slice(from..to)?))
     }
 
     /// Keeps the first `length` bytes, where there are more.
@@ -74,6 +96,7 @@ impl Blob {
         ensures { self.new ≡ take length self.old }
     {
         self.bytes.truncate(length);
+        let _bytes = plain(self.bytes.as_slice());
     }
 
     /// Drops the first `by` bytes.
@@ -82,14 +105,13 @@ impl Blob {
         ensures { self.new ≡ drop by self.old }
     {
         self.bytes.advance(by);
+        let _bytes = plain(self.bytes.as_slice());
     }
 
     /// The same bytes, shared with this blob.
     pub fn share(&self) -> Result<Blob, Memory>
         ensures { IfOk result (λ blob. blob ≡ self.now) }
     {
-        Ok(Blob {
-            bytes: self.bytes.clone()?,
-        })
+        Ok(Blob::from_bytes(self.bytes.clone()?))
     }
 }

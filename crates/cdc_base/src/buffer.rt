@@ -1,17 +1,23 @@
 //! Bytes that grow.
 
 ghost use Rattle.std.specs.Prelude.{◌≡◌, ◌≤◌, [], ◌++◌, length, take, drop, IfOk, OnOk, OnErr};
+ghost use Rattle.cdc_base.specs.Bytes.{AreBytes};
 
-use crate::blob::Blob;
+use crate::blob::{Blob, plain};
 use crate::memory::Memory;
-use bytes::BytesMut;
-use std::alloc::Global;
+use bytes::Bytes;
+use std::alloc::{AllocFailed, Global};
 use std::marker::Model;
+use std::mem;
 
-/// Growing bytes, seen as the list of them.
+/// Growing bytes, seen as the list of them. They grow with no byte set before it is written, and are frozen
+/// with no copy; those that are dropped at the front make room for more.
 #[derive(Debug, Drop)]
 pub struct Buffer {
-    bytes: BytesMut,
+    alloc: Global,
+    bytes: Vec<u8>,
+    // How many bytes at the front are dropped.
+    from: usize,
 }
 
 impl Model for Buffer {
@@ -19,7 +25,22 @@ impl Model for Buffer {
 
     ghost Value = { List ℕ };
 
-    ghost view = { λ buffer. buffer.bytes.items };
+    ghost use Rattle.std.specs.Prelude.{◌≤◌, length, drop};
+
+    ghost view = { λ buffer. drop buffer.from buffer.bytes.items };
+
+    ghost invariant = { λ buffer. buffer.from ≤ length buffer.bytes.items };
+}
+
+// Moves the bytes from `from` on to the front.
+#[tactic(auto, using(crate::proofs::Gaps::closed))]
+fn close_gap(bytes: &mut Vec<u8>, from: usize)
+    requires { from ≤ length bytes.old.items }
+    ensures { bytes.new.items ≡ drop from bytes.old.items }
+{
+    let length = bytes.len();
+    bytes.copy_within(from..length, 0);
+    bytes.truncate(length - from);
 }
 
 impl Buffer {
@@ -28,7 +49,9 @@ impl Buffer {
         ensures { result ≡ [] }
     {
         Buffer {
-            bytes: BytesMut::new(alloc),
+            alloc,
+            bytes: Vec::new(alloc),
+            from: 0,
         }
     }
 
@@ -37,22 +60,25 @@ impl Buffer {
         ensures { IfOk result (λ buffer. buffer ≡ []) }
     {
         Ok(Buffer {
-            bytes: BytesMut::with_capacity(alloc, room)?,
+            alloc,
+            bytes: Vec::with_capacity(alloc, room)?,
+            from: 0,
         })
     }
 
     /// The bytes so far.
     pub fn bytes(&self) -> &[u8]
-        ensures { result.now ≡ self.now }
+        ensures value { result.now ≡ self.now }
+        ensures each { AreBytes self.now }
     {
-        self.bytes.as_slice()
+        plain(&self.bytes[self.from..])
     }
 
     /// How many bytes there are.
     pub fn len(&self) -> usize
         ensures { result ≡ length self.now }
     {
-        self.bytes.len()
+        self.bytes.len() - self.from
     }
 
     /// Appends all bytes. On `Memory` nothing changes.
@@ -60,6 +86,11 @@ impl Buffer {
         ensures ok { OnOk result (self.new ≡ self.old ++ bytes.now) }
         ensures err { OnErr result (self.new ≡ self.old) }
     {
+        if self.from > self.bytes.len() - self.from {
+            // More is dropped than is left, so that each byte moves once at most.
+            close_gap(&mut self.bytes, self.from);
+            self.from = 0;
+        }
         self.bytes.extend_from_slice(bytes)?;
         Ok(())
     }
@@ -77,7 +108,7 @@ impl Buffer {
         requires { to ≤ length self.old }
         ensures { self.new ≡ take to self.old }
     {
-        self.bytes.truncate(to);
+        self.bytes.truncate(self.from + to);
     }
 
     /// Drops the first `by` bytes.
@@ -85,23 +116,44 @@ impl Buffer {
         requires { by ≤ length self.old }
         ensures { self.new ≡ drop by self.old }
     {
-        self.bytes.advance(by);
+        self.from += by;
     }
 
-    /// The first `to` bytes, to be shared; those behind them stay. On `Memory` nothing changes.
+    /// The first `to` bytes, to be shared, with no copy; those behind them are copied and stay. On `Memory`
+    /// nothing changes.
     pub fn freeze_to(&mut self, to: usize) -> Result<Blob, Memory>
         requires { to ≤ length self.old }
         ensures front { IfOk result (λ blob. blob ≡ take to self.old) }
         ensures rest { OnOk result (self.new ≡ drop to self.old) }
         ensures err { OnErr result (self.new ≡ self.old) }
     {
-        Ok(Blob::from_bytes(self.bytes.freeze_to(to)?))
+        let rest = Vec::from_slice(self.alloc, &self.bytes[self.from + to..])?;
+        let whole = mem::replace(&mut self.bytes, rest);
+        match Bytes::from_vec(whole) {
+            Ok(mut front) => {
+                front.advance(self.from);
+                front.truncate(to);
+                self.from = 0;
+                Ok(Blob::from_bytes(front))
+            }
+            Err(AllocFailed { value: whole }) => {
+                self.bytes = whole;
+                Err(Memory)
+            }
+        }
     }
 
-    /// The bytes, to be shared. On `Memory` the buffer is spent.
+    /// The bytes, to be shared, with no copy. On `Memory` the buffer is spent.
     pub fn freeze(self) -> Result<Blob, Memory>
         ensures { IfOk result (λ blob. blob ≡ self) }
     {
-        Ok(Blob::from_bytes(self.bytes.freeze()?))
+        let Buffer {
+            alloc: _,
+            bytes,
+            from,
+        } = self;
+        let mut bytes = Bytes::from_vec(bytes)?;
+        bytes.advance(from);
+        Ok(Blob::from_bytes(bytes))
     }
 }

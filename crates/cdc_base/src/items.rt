@@ -45,11 +45,11 @@ impl<T> Items<T> {
         self.items.is_empty()
     }
 
-    /// The item at a place; none exactly where the place isn't below the length.
-    pub fn get(&self, place: usize) -> Option<&T>
-        ensures { option_copied result ≡ slice_get self.now place }
+    /// The item at an index; none exactly where the index isn't below the length.
+    pub fn get(&self, index: usize) -> Option<&T>
+        ensures { option_copied result ≡ slice_get self.now index }
     {
-        self.items.get(place)
+        self.items.get(index)
     }
 
     /// All items, in order.
@@ -59,13 +59,13 @@ impl<T> Items<T> {
         self.items.as_slice()
     }
 
-    /// Takes the item at a place out, and closes the gap.
-    pub fn remove(&mut self, place: usize) -> T
-        requires { place < length self.old }
-        ensures item { result ≡ slice_index_or self.old place result }
-        ensures rest { self.new ≡ remove self.old place }
+    /// Takes the item at an index out, and closes the gap.
+    pub fn remove(&mut self, index: usize) -> T
+        requires { index < length self.old }
+        ensures item { result ≡ slice_index_or self.old index result }
+        ensures rest { self.new ≡ remove self.old index }
     {
-        self.items.remove(place)
+        self.items.remove(index)
     }
 
     /// Takes the last item out; none exactly where there is none.
@@ -87,14 +87,14 @@ impl<T: Drop> Items<T> {
         Ok(())
     }
 
-    /// Puts an item before the one at a place, or at the end. On `Memory` the list is unchanged, and the
+    /// Puts an item before the one at an index, or at the end. On `Memory` the list is unchanged, and the
     /// item is let go.
-    pub fn insert(&mut self, place: usize, item: T) -> Result<(), Memory>
-        requires { place ≤ length self.old }
-        ensures ok { OnOk result (self.new ≡ insert self.old place item) }
+    pub fn insert(&mut self, index: usize, item: T) -> Result<(), Memory>
+        requires { index ≤ length self.old }
+        ensures ok { OnOk result (self.new ≡ insert self.old index item) }
         ensures err { OnErr result (self.new ≡ self.old) }
     {
-        self.items.insert(place, item)?;
+        self.items.insert(index, item)?;
         Ok(())
     }
 }

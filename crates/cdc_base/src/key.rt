@@ -3,9 +3,13 @@
 ghost use Rattle.std.specs.Prelude.{◌≡◌};
 ghost use Rattle.std.specs.Cmp.{IsTotalOrder};
 ghost use Rattle.cdc_base.specs.Key.{key_order, SameKey};
+ghost use Rattle.cdc_base.specs.Key as specs_key;
 
 use crate::gtrid::Gtrid;
 use std::cmp::Ordering;
+
+/// The most nodes: a node is numbered from 1 to 256.
+pub const NODES_MAX: usize = 256;
 
 /// The order key of a transaction.
 #[derive(Clone, Copy, Debug, PartialEq, Eq)]
@@ -69,6 +73,16 @@ pub fn key_cmp(a: &Key, b: &Key) -> Ordering
             .cmp(other_timestamp)
             .then(node.cmp(other_node))
             .then(entry.cmp(other_entry)),
+    }
+}
+
+/// The key before all others.
+pub fn first_key() -> Key
+    ensures { result ≡ specs_key.first_key }
+{
+    Key::Shared {
+        timestamp: 0,
+        gtrid: Gtrid::empty(),
     }
 }
 

@@ -6,11 +6,11 @@ use Rattle.cdc_event.specs.declared.fault.FileFault.{FileFault}
 use Rattle.cdc_event.specs.declared.fault.FileFault.TheVariants.{BadMagic, Event as EventIsFaulty}
 use Rattle.cdc_event.specs.File.{PlacedEvent, setting_behind, IsWhole, IsFaulty, in_header, AreEvents, AreEventsFrom}
 use Rattle.cdc_event.proofs.FileReading.{BeginsSo, begins_so, same_first, some_fault, faulty_more, grown}
-use Rattle.cdc_cutter.specs.declared.stage.Stage.{Stage}
-use Rattle.cdc_cutter.specs.declared.stage.Stage.TheVariants.{Start, First, Behind, Faulty}
+use Rattle.cdc_cutter.specs.declared.state.CutterState.{CutterState}
+use Rattle.cdc_cutter.specs.declared.state.CutterState.TheVariants.{Start, First, Behind, Faulty}
 use Rattle.cdc_cutter.specs.declared.cut.Cut.{Cut}
 use Rattle.cdc_cutter.specs.declared.cut.Cut.TheVariants.{Event as GivesEvent, Need, Fault as GivesFault}
-use Rattle.cdc_cutter.specs.Cutting.{Cutting, AreLeft, Holds, placed, Answers, CutsEvent, Cuts}
+use Rattle.cdc_cutter.specs.Cutting.{Cutting, AreLeft, Holds, placed_event, Answers, CutsEvent, Cuts}
 use Rattle.cdc_cutter.proofs.Holding.{assoc, LeavesAs, holds_as}
 
 assoc_events : (xs ys zs : List PlacedEvent) → (xs ++ ys) ++ zs ≡ xs ++ (ys ++ zs)
@@ -18,19 +18,19 @@ assoc_events xs ys zs = simp append_assoc
 
 -- what is left now is what the fed bytes have behind what was given
 reading_now : (old : Cutting) (start checksum : ℕ) (fed : List ℕ) (given : List PlacedEvent) (fault : Option (ℕ × FileFault)) → Holds old start checksum fed given →
-    AreLeft old.stage old.at old.checksum old.rest [] fault → AreEventsFrom start checksum fed given fault
+    AreLeft old.state old.at old.checksum old.rest [] fault → AreEventsFrom start checksum fed given fault
 reading_now old start checksum fed given fault h left =
-    let here = h.forth [] [] fault (subst (λ v. AreLeft old.stage old.at old.checksum v [] fault) (sym (append-nil old.rest)) left) in
+    let here = h.forth [] [] fault (subst (λ v. AreLeft old.state old.at old.checksum v [] fault) (sym (append-nil old.rest)) left) in
     subst (λ v. AreEventsFrom start checksum v given fault) (append-nil fed) (subst (λ v. AreEventsFrom start checksum (fed ++ []) v fault) (append-nil given) here)
 
--- the stages at which an event may begin
-record MayBegin (first : Bool) (stage : Stage) : Type 0 where
-  to : (at checksum : ℕ) (bytes : List ℕ) (events : List PlacedEvent) (fault : Option (ℕ × FileFault)) → AreLeft stage at checksum bytes events fault → AreEvents first at checksum bytes events fault
-  from : (at checksum : ℕ) (bytes : List ℕ) (events : List PlacedEvent) (fault : Option (ℕ × FileFault)) → AreEvents first at checksum bytes events fault → AreLeft stage at checksum bytes events fault
+-- the states at which an event may begin
+record MayBegin (first : Bool) (state : CutterState) : Type 0 where
+  to : (at checksum : ℕ) (bytes : List ℕ) (events : List PlacedEvent) (fault : Option (ℕ × FileFault)) → AreLeft state at checksum bytes events fault → AreEvents first at checksum bytes events fault
+  from : (at checksum : ℕ) (bytes : List ℕ) (events : List PlacedEvent) (fault : Option (ℕ × FileFault)) → AreEvents first at checksum bytes events fault → AreLeft state at checksum bytes events fault
 
 -- a state in which the next event begins, and the event
 record NextEvent (first : Bool) (old new : Cutting) (event : PlacedEvent) : Type 0 where
-  begins : MayBegin first old.stage
+  begins : MayBegin first old.state
   piece : List ℕ
   rest : List ℕ
   cut : old.rest ≡ piece ++ rest
@@ -38,10 +38,10 @@ record NextEvent (first : Bool) (old new : Cutting) (event : PlacedEvent) : Type
   at_is : event.at ≡ old.at
   end_is : event.end ≡ old.at + length piece
   checksum_is : event.checksum ≡ setting_behind old.checksum event.event.body
-  new_is : new ≡ record { file = old.file; at = event.end; checksum = event.checksum; stage = Behind; rest = rest }
+  new_is : new ≡ record { file = old.file; at = event.end; checksum = event.checksum; state = Behind; rest = rest }
 
 next_forth : (first : Bool) (old new : Cutting) (event : PlacedEvent) (n : NextEvent first old new event) (more : List ℕ) (events : List PlacedEvent) (fault : Option (ℕ × FileFault)) →
-    AreEvents false event.end event.checksum (n.rest ++ more) events fault → AreLeft old.stage old.at old.checksum (old.rest ++ more) (event ∷ events) fault
+    AreEvents false event.end event.checksum (n.rest ++ more) events fault → AreLeft old.state old.at old.checksum (old.rest ++ more) (event ∷ events) fault
 next_forth first old new event n more events fault left =
     n.begins.from old.at old.checksum (old.rest ++ more) (event ∷ events) fault
     (n.piece, n.rest ++ more, ap (λ v. v ++ more) n.cut ∙ assoc n.piece n.rest more, n.whole, n.at_is, n.end_is, n.checksum_is, left)
@@ -57,7 +57,7 @@ record NextBack (rest : List ℕ) (event : PlacedEvent) (events : List PlacedEve
   behind : AreEvents false event.end event.checksum rest later fault
 
 next_back : (first : Bool) (old new : Cutting) (event : PlacedEvent) (n : NextEvent first old new event) (more : List ℕ) (events : List PlacedEvent) (fault : Option (ℕ × FileFault)) →
-    AreLeft old.stage old.at old.checksum (old.rest ++ more) events fault → NextBack (n.rest ++ more) event events fault
+    AreLeft old.state old.at old.checksum (old.rest ++ more) events fault → NextBack (n.rest ++ more) event events fault
 next_back first old new event n more events fault left =
     let e : old.rest ++ more ≡ n.piece ++ (n.rest ++ more) = ap (λ v. v ++ more) n.cut ∙ assoc n.piece n.rest more in
     let read = subst (λ v. AreEvents first old.at old.checksum v events fault) e (n.begins.to old.at old.checksum (old.rest ++ more) events fault left) in
@@ -106,12 +106,12 @@ given_first new event start checksum fed given all fault h read =
     (b.0, b.1 ∙ assoc_events given (event ∷ []) b.0)
 
 -- a state that stops at a fault
-stops_as : (first : Bool) (old : Cutting) (wrong : EventFault) → MayBegin first old.stage → IsFaulty first old.checksum old.rest wrong → LeavesAs old (record old { stage = Faulty (EventIsFaulty wrong) })
+stops_as : (first : Bool) (old : Cutting) (wrong : EventFault) → MayBegin first old.state → IsFaulty first old.checksum old.rest wrong → LeavesAs old (record old { state = Faulty (EventIsFaulty wrong) })
 stops_as first old wrong b f = record {
   counted = omega arith;
   forth = λ more events fault left.
-      subst (λ v. AreLeft old.stage old.at old.checksum (old.rest ++ more) v fault) (sym left.0)
-      (subst (λ v. AreLeft old.stage old.at old.checksum (old.rest ++ more) [] v) (sym left.1)
+      subst (λ v. AreLeft old.state old.at old.checksum (old.rest ++ more) v fault) (sym left.0)
+      (subst (λ v. AreLeft old.state old.at old.checksum (old.rest ++ more) [] v) (sym left.1)
       (b.from old.at old.checksum (old.rest ++ more) [] (Some (old.at, EventIsFaulty wrong)) (refl, faulty_more first old.checksum wrong old.rest more f)));
   back = λ more events fault left.
       let l = grown first old.at old.checksum old.rest more [] events (Some (old.at, EventIsFaulty wrong)) fault (refl, f) (b.to old.at old.checksum (old.rest ++ more) events fault left) in
@@ -119,12 +119,12 @@ stops_as first old wrong b f = record {
       (l.goes_on ∙ s.0, s.1);
 }
 
-cut_event : (first : Bool) (cut : Cut) (old new : Cutting) (start checksum : ℕ) (fed : List ℕ) (given : List PlacedEvent) → MayBegin first old.stage →
+cut_event : (first : Bool) (cut : Cut) (old new : Cutting) (start checksum : ℕ) (fed : List ℕ) (given : List PlacedEvent) → MayBegin first old.state →
     CutsEvent first old new cut → Holds old start checksum fed given → Answers start checksum fed given old new cut
 cut_event first (GivesEvent at end event setting) old new start checksum fed given b c h =
     let at_is : at.at ≡ old.at = ap (λ (p : Place). p.at) c.4 in
     let end_is : end.at ≡ old.at + length c.0 = ap (λ (p : Place). p.at) c.5 in
-    let n : NextEvent first old new (placed at end event setting) = record {
+    let n : NextEvent first old new (placed_event at end event setting) = record {
       begins = b;
       piece = c.0;
       rest = c.1;
@@ -133,34 +133,34 @@ cut_event first (GivesEvent at end event setting) old new start checksum fed giv
       at_is = at_is;
       end_is = end_is;
       checksum_is = c.6;
-      new_is = c.7 ∙ (λ i. record { file = old.file; at = (sym end_is) i; checksum = setting; stage = Behind; rest = c.1 });
+      new_is = c.7 ∙ (λ i. record { file = old.file; at = (sym end_is) i; checksum = setting; state = Behind; rest = c.1 });
     } in
-    let holds = next_holds first old new (placed at end event setting) start checksum fed given n h in
-    (holds, λ all fault read. given_first new (placed at end event setting) start checksum fed given all fault holds read)
+    let holds = next_holds first old new (placed_event at end event setting) start checksum fed given n h in
+    (holds, λ all fault read. given_first new (placed_event at end event setting) start checksum fed given all fault holds read)
 cut_event first Need old new start checksum fed given b c h =
     (subst (λ v. Holds v start checksum fed given) (sym c.1) h, reading_now old start checksum fed given None h (b.from old.at old.checksum old.rest [] None c.0))
 cut_event first (GivesFault place BadMagic) old new start checksum fed given b c h = absurd c
 cut_event first (GivesFault place (EventIsFaulty wrong)) old new start checksum fed given b c h =
     let here : old.at ≡ place.at = ap (λ (p : Place). p.at) (sym c.1) in
     let read = reading_now old start checksum fed given (Some (old.at, EventIsFaulty wrong)) h (b.from old.at old.checksum old.rest [] (Some (old.at, EventIsFaulty wrong)) (refl, c.0)) in (
-      subst (λ v. Holds v start checksum fed given) (sym c.2) (holds_as old (record old { stage = Faulty (EventIsFaulty wrong) }) start checksum fed given (stops_as first old wrong b c.0) h),
+      subst (λ v. Holds v start checksum fed given) (sym c.2) (holds_as old (record old { state = Faulty (EventIsFaulty wrong) }) start checksum fed given (stops_as first old wrong b c.0) h),
       subst (λ v. AreEventsFrom start checksum fed given (Some (v, EventIsFaulty wrong))) here read,
     )
 
-begins_first : (stage : Stage) → stage ≡ First → MayBegin true stage
-begins_first stage e = subst (MayBegin true) (sym e) (record { to = λ at checksum bytes events fault a. a; from = λ at checksum bytes events fault a. a })
+begins_first : (state : CutterState) → state ≡ First → MayBegin true state
+begins_first state e = subst (MayBegin true) (sym e) (record { to = λ at checksum bytes events fault a. a; from = λ at checksum bytes events fault a. a })
 
-begins_behind : (stage : Stage) → stage ≡ Behind → MayBegin false stage
-begins_behind stage e = subst (MayBegin false) (sym e) (record { to = λ at checksum bytes events fault a. a; from = λ at checksum bytes events fault a. a })
+begins_behind : (state : CutterState) → state ≡ Behind → MayBegin false state
+begins_behind state e = subst (MayBegin false) (sym e) (record { to = λ at checksum bytes events fault a. a; from = λ at checksum bytes events fault a. a })
 
 -- what is cut is answered
-pub answered : (stage : Stage) (cut : Cut) (old new : Cutting) → old.stage ≡ stage → Cuts stage old new cut →
+pub answered : (state : CutterState) (cut : Cut) (old new : Cutting) → old.state ≡ state → Cuts state old new cut →
     (start checksum : ℕ) (fed : List ℕ) (given : List PlacedEvent) → Holds old start checksum fed given → Answers start checksum fed given old new cut
 answered Start cut old new s c start checksum fed given h =
-    let left : AreLeft old.stage old.at old.checksum old.rest [] None = subst (λ g. AreLeft g old.at old.checksum old.rest [] None) (sym s) (inl (c.2, refl, refl)) in
+    let left : AreLeft old.state old.at old.checksum old.rest [] None = subst (λ g. AreLeft g old.at old.checksum old.rest [] None) (sym s) (inl (c.2, refl, refl)) in
     subst (Answers start checksum fed given old new) (sym c.0) (subst (λ v. Holds v start checksum fed given) (sym c.1) h, reading_now old start checksum fed given None h left)
-answered First cut old new s c start checksum fed given h = cut_event true cut old new start checksum fed given (begins_first old.stage s) c h
-answered Behind cut old new s c start checksum fed given h = cut_event false cut old new start checksum fed given (begins_behind old.stage s) c h
+answered First cut old new s c start checksum fed given h = cut_event true cut old new start checksum fed given (begins_first old.state s) c h
+answered Behind cut old new s c start checksum fed given h = cut_event false cut old new start checksum fed given (begins_behind old.state s) c h
 answered (Faulty wrong) cut old new s c start checksum fed given h =
-    let left : AreLeft old.stage old.at old.checksum old.rest [] (Some (old.at, wrong)) = subst (λ g. AreLeft g old.at old.checksum old.rest [] (Some (old.at, wrong))) (sym s) (refl, refl) in
+    let left : AreLeft old.state old.at old.checksum old.rest [] (Some (old.at, wrong)) = subst (λ g. AreLeft g old.at old.checksum old.rest [] (Some (old.at, wrong))) (sym s) (refl, refl) in
     subst (Answers start checksum fed given old new) (sym c.0) (subst (λ v. Holds v start checksum fed given) (sym c.1) h, reading_now old start checksum fed given (Some (old.at, wrong)) h left)

@@ -5,8 +5,8 @@ use Rattle.cdc_event.specs.declared.fault.FileFault.TheVariants.{BadMagic}
 use Rattle.cdc_event.specs.Event.{magic}
 use Rattle.cdc_event.specs.File.{PlacedEvent, AreEvents, AreFileEvents, AreEventsFrom}
 use Rattle.cdc_event.proofs.FileReading.{front_stays, more_length, begins_with_magic, magic_length}
-use Rattle.cdc_cutter.specs.declared.stage.Stage.{Stage}
-use Rattle.cdc_cutter.specs.declared.stage.Stage.TheVariants.{Start, First, Behind, Faulty}
+use Rattle.cdc_cutter.specs.declared.state.CutterState.{CutterState}
+use Rattle.cdc_cutter.specs.declared.state.CutterState.TheVariants.{Start, First, Behind, Faulty}
 use Rattle.cdc_cutter.specs.Cutting.{Cutting, AreLeft, Holds, TakesAtStart, Takes}
 
 pub assoc : (xs ys zs : List ℕ) → (xs ++ ys) ++ zs ≡ xs ++ (ys ++ zs)
@@ -16,9 +16,9 @@ assoc xs ys zs = simp append_assoc
 pub record LeavesAs (old new : Cutting) : Type 0 where
   pub counted : new.at + length new.rest ≤ old.at + length old.rest
   pub forth : (more : List ℕ) (events : List PlacedEvent) (fault : Option (ℕ × FileFault))
-      → AreLeft new.stage new.at new.checksum (new.rest ++ more) events fault → AreLeft old.stage old.at old.checksum (old.rest ++ more) events fault
+      → AreLeft new.state new.at new.checksum (new.rest ++ more) events fault → AreLeft old.state old.at old.checksum (old.rest ++ more) events fault
   pub back : (more : List ℕ) (events : List PlacedEvent) (fault : Option (ℕ × FileFault))
-      → AreLeft old.stage old.at old.checksum (old.rest ++ more) events fault → AreLeft new.stage new.at new.checksum (new.rest ++ more) events fault
+      → AreLeft old.state old.at old.checksum (old.rest ++ more) events fault → AreLeft new.state new.at new.checksum (new.rest ++ more) events fault
 
 pub holds_as : (old new : Cutting) (start checksum : ℕ) (fed : List ℕ) (given : List PlacedEvent) → LeavesAs old new → Holds old start checksum fed given → Holds new start checksum fed given
 holds_as old new start checksum fed given l h =
@@ -41,10 +41,10 @@ holds_longer old piece start checksum fed given h =
       counted = omega arith;
       forth = λ more events fault left.
           subst (λ v. AreEventsFrom start checksum v (given ++ events) fault) (sym (assoc fed piece more))
-          (h.forth (piece ++ more) events fault (subst (λ v. AreLeft old.stage old.at old.checksum v events fault) (assoc old.rest piece more) left));
+          (h.forth (piece ++ more) events fault (subst (λ v. AreLeft old.state old.at old.checksum v events fault) (assoc old.rest piece more) left));
       back = λ more read fault whole.
           let b = h.back (piece ++ more) read fault (subst (λ v. AreEventsFrom start checksum v read fault) (assoc fed piece more) whole) in
-          (b.0, b.1, subst (λ v. AreLeft old.stage old.at old.checksum v b.0 fault) (sym (assoc old.rest piece more)) b.2);
+          (b.0, b.1, subst (λ v. AreLeft old.state old.at old.checksum v b.0 fault) (sym (assoc old.rest piece more)) b.2);
     }
 
 -- behind the magic the file's events are read on
@@ -77,17 +77,17 @@ failed bytes more events fault four other (inl a) =
 failed bytes more events fault four other (inr (inl a)) = (a.2, a.3)
 failed bytes more events fault four other (inr (inr a)) = absurd (other (begins_with_magic bytes more a.0 a.1 four))
 
-at_start : (stage : Stage) (old : Cutting) (bytes : List ℕ) (start checksum : ℕ) (fed : List ℕ) (given : List PlacedEvent) (new : Cutting) → old.stage ≡ Start → old.rest ≡ bytes →
-    TakesAtStart stage bytes old new → Holds old start checksum fed given → Holds new start checksum fed given
+at_start : (state : CutterState) (old : Cutting) (bytes : List ℕ) (start checksum : ℕ) (fed : List ℕ) (given : List PlacedEvent) (new : Cutting) → old.state ≡ Start → old.rest ≡ bytes →
+    TakesAtStart state bytes old new → Holds old start checksum fed given → Holds new start checksum fed given
 at_start Start old bytes start checksum fed given new s r t h = subst (λ c. Holds c start checksum fed given) (sym t.1) (holds_as old (record old { rest = bytes }) start checksum fed given (record {
   counted = let size : length bytes ≡ length old.rest = ap length (sym r) in omega arith;
-  forth = λ more events fault left. subst (λ v. AreLeft old.stage old.at old.checksum (v ++ more) events fault) (sym r) left;
-  back = λ more events fault left. subst (λ v. AreLeft old.stage old.at old.checksum (v ++ more) events fault) r left;
+  forth = λ more events fault left. subst (λ v. AreLeft old.state old.at old.checksum (v ++ more) events fault) (sym r) left;
+  back = λ more events fault left. subst (λ v. AreLeft old.state old.at old.checksum (v ++ more) events fault) r left;
 }) h)
 at_start First old bytes start checksum fed given new s r t h =
     let size : length bytes ≡ length magic + length new.rest = ap length t.0 ∙ length-append magic new.rest in
     let all : length bytes ≡ length old.rest = ap length (sym r) in
-    subst (λ c. Holds c start checksum fed given) (sym t.1) (holds_as old (record { file = old.file; at = 4; checksum = 0; stage = First; rest = new.rest }) start checksum fed given (record {
+    subst (λ c. Holds c start checksum fed given) (sym t.1) (holds_as old (record { file = old.file; at = 4; checksum = 0; state = First; rest = new.rest }) start checksum fed given (record {
       counted = omega arith;
       forth = λ more events fault left. subst (λ g. AreLeft g old.at old.checksum (old.rest ++ more) events fault) (sym s)
           (subst (λ v. AreFileEvents (v ++ more) events fault) (sym r) (passes bytes new.rest more events fault t.0 left));
@@ -98,7 +98,7 @@ at_start (Faulty wrong) old bytes start checksum fed given new s r t h =
     let all : length bytes ≡ length old.rest = ap length (sym r) in
     let zero_at : old.at ≡ 0 = t.3 in
     let here : ◌≡◌ {A = Option (ℕ × FileFault)} (Some (old.at, BadMagic)) (Some (0, BadMagic)) = λ i. Some (zero_at i, BadMagic) in
-    subst (λ c. Holds c start checksum fed given) (sym t.4) (holds_as old (record old { rest = bytes; stage = Faulty BadMagic }) start checksum fed given (record {
+    subst (λ c. Holds c start checksum fed given) (sym t.4) (holds_as old (record old { rest = bytes; state = Faulty BadMagic }) start checksum fed given (record {
       counted = omega arith;
       forth = λ more events fault left. subst (λ g. AreLeft g old.at old.checksum (old.rest ++ more) events fault) (sym s)
           (subst (λ v. AreFileEvents (v ++ more) events fault) (sym r) (fails bytes more events fault t.0 t.1 left.0 (left.1 ∙ here)));
@@ -107,23 +107,23 @@ at_start (Faulty wrong) old bytes start checksum fed given new s r t h =
           (f.0, f.1 ∙ sym here);
     }) h)
 
-takes_longer : (stage : Stage) (bytes : List ℕ) (old new : Cutting) → TakesAtStart stage bytes old new → TakesAtStart stage bytes (record old { rest = bytes }) new
+takes_longer : (state : CutterState) (bytes : List ℕ) (old new : Cutting) → TakesAtStart state bytes old new → TakesAtStart state bytes (record old { rest = bytes }) new
 takes_longer Start bytes old new t = t
 takes_longer First bytes old new t = t
 takes_longer Behind bytes old new t = t
 takes_longer (Faulty fault) bytes old new t = t
 
 -- whatever a cutter may have been fed, it has been fed the piece besides
-pub fed_more : (stage : Stage) (piece : List ℕ) (old new : Cutting) → old.stage ≡ stage → Takes stage piece old new →
+pub fed_more : (state : CutterState) (piece : List ℕ) (old new : Cutting) → old.state ≡ state → Takes state piece old new →
     (start checksum : ℕ) (fed : List ℕ) (given : List PlacedEvent) → Holds old start checksum fed given → Holds new start checksum (fed ++ piece) given
 fed_more Start piece old new s t start checksum fed given h =
-    at_start new.stage (record old { rest = old.rest ++ piece }) (old.rest ++ piece) start checksum (fed ++ piece) given new s refl (takes_longer new.stage (old.rest ++ piece) old new t) (holds_longer old piece start checksum fed given h)
+    at_start new.state (record old { rest = old.rest ++ piece }) (old.rest ++ piece) start checksum (fed ++ piece) given new s refl (takes_longer new.state (old.rest ++ piece) old new t) (holds_longer old piece start checksum fed given h)
 fed_more First piece old new s t start checksum fed given h = subst (λ c. Holds c start checksum (fed ++ piece) given) (sym t) (holds_longer old piece start checksum fed given h)
 fed_more Behind piece old new s t start checksum fed given h = subst (λ c. Holds c start checksum (fed ++ piece) given) (sym t) (holds_longer old piece start checksum fed given h)
 fed_more (Faulty fault) piece old new s t start checksum fed given h = subst (λ c. Holds c start checksum (fed ++ piece) given) (sym t) (holds_longer old piece start checksum fed given h)
 
 -- after a fault nothing more is read
-pub fed_faulty : (old : Cutting) (wrong : FileFault) (piece : List ℕ) (start checksum : ℕ) (fed : List ℕ) (given : List PlacedEvent) → old.stage ≡ Faulty wrong → Holds old start checksum fed given → Holds old start checksum (fed ++ piece) given
+pub fed_faulty : (old : Cutting) (wrong : FileFault) (piece : List ℕ) (start checksum : ℕ) (fed : List ℕ) (given : List PlacedEvent) → old.state ≡ Faulty wrong → Holds old start checksum fed given → Holds old start checksum (fed ++ piece) given
 fed_faulty old wrong piece start checksum fed given s h =
     let long = holds_longer old piece start checksum fed given h in
     let size : length (old.rest ++ piece) ≡ length old.rest + length piece = length-append old.rest piece in
@@ -139,25 +139,23 @@ pub on_ok : {A B : Type 0} (result : Result A B) {P Q : Type 0} → OnOk result 
 on_ok (Ok value) p f = f p
 on_ok (Err error) p f = tt
 
-start_file : (stage : Stage) (bytes : List ℕ) (old new : Cutting) → TakesAtStart stage bytes old new → new.file ≡ old.file
+start_file : (state : CutterState) (bytes : List ℕ) (old new : Cutting) → TakesAtStart state bytes old new → new.file ≡ old.file
 start_file Start bytes old new t = ap (λ (v : Cutting). v.file) t.1
 start_file First bytes old new t = ap (λ (v : Cutting). v.file) t.1
 start_file Behind bytes old new t = absurd t
 start_file (Faulty fault) bytes old new t = ap (λ (v : Cutting). v.file) t.4
 
-same_file : (stage : Stage) (piece : List ℕ) (old new : Cutting) → Takes stage piece old new → new.file ≡ old.file
-same_file Start piece old new t = start_file new.stage (old.rest ++ piece) old new t
+same_file : (state : CutterState) (piece : List ℕ) (old new : Cutting) → Takes state piece old new → new.file ≡ old.file
+same_file Start piece old new t = start_file new.state (old.rest ++ piece) old new t
 same_file First piece old new t = ap (λ (v : Cutting). v.file) t
 same_file Behind piece old new t = ap (λ (v : Cutting). v.file) t
 same_file (Faulty fault) piece old new t = ap (λ (v : Cutting). v.file) t
 
-pub takes_file : {A B : Type 0} (result : Result A B) (piece : List ℕ) (old new : Cutting) → OnOk result (Takes old.stage piece old new) → OnErr result (new ≡ old) → new.file ≡ old.file
-takes_file (Ok value) piece old new t e = same_file old.stage piece old new t
+pub takes_file : {A B : Type 0} (result : Result A B) (piece : List ℕ) (old new : Cutting) → OnOk result (Takes old.state piece old new) → OnErr result (new ≡ old) → new.file ≡ old.file
+takes_file (Ok value) piece old new t e = same_file old.state piece old new t
 takes_file (Err error) piece old new t e = ap (λ (v : Cutting). v.file) e
 
-pub passed_count : (front tail piece rest : List ℕ) (at : ℕ) → at + length (front ++ tail) + length piece < 2 ^ 63 → tail ++ piece ≡ magic ++ rest → 4 + length (front ++ rest) < 2 ^ 63
-passed_count front tail piece rest at h e =
-    let one : length (front ++ tail) ≡ length front + length tail = length-append front tail in
-    let two : length (front ++ rest) ≡ length front + length rest = length-append front rest in
-    let three : length tail + length piece ≡ length magic + length rest = sym (length-append tail piece) ∙ (ap length e ∙ length-append magic rest) in
+pub passed_count : (left piece rest : List ℕ) (at : ℕ) → at + length left + length piece < 2 ^ 63 → left ++ piece ≡ magic ++ rest → 4 + length rest < 2 ^ 63
+passed_count left piece rest at h e =
+    let all : length left + length piece ≡ length magic + length rest = sym (length-append left piece) ∙ (ap length e ∙ length-append magic rest) in
     omega arith

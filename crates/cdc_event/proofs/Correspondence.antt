@@ -8,7 +8,7 @@ use Rattle.cdc_event.specs.declared.body.Body.TheVariants.{Format, Query, Rotate
 use Rattle.cdc_event.specs.declared.body.Body.TheVariants.{Xid as XidEvent}
 use Rattle.cdc_event.specs.Number.{number_of}
 use Rattle.cdc_event.specs.Event.{header_bytes, body_bytes, has_kind, is_rows_kind, is_known_kind, FitsBody}
-use Rattle.cdc_event.specs.Reading.{IsBodyOf, IsNoBody, guard, format_of, format_at, body_at, event_with}
+use Rattle.cdc_event.specs.Reading.{IsBodyOf, IsNoBody, guard, format_body_of, format_at, body_at, event_with}
 use Rattle.cdc_event.specs.Laws.{WrittenIsRead, OneEvent, OneByteList, NoFront, OneFault, FormatByFields, IsBadFormat}
 use Rattle.cdc_event.proofs.Numbers.{AreBytes}
 use Rattle.cdc_event.proofs.Bodies.{is_kind, body_again, test_cases}
@@ -34,7 +34,7 @@ one_byte_list event bytes more e f = e.spelled ∙ sym f.spelled
 
 -- the body of these bytes, whatever the algorithm
 pub body_for : ℕ → List ℕ → Option Body
-body_for kind bytes = if kind == 15 then Some (format_of bytes) else body_at kind bytes
+body_for kind bytes = if kind == 15 then Some (format_body_of bytes) else body_at kind bytes
 
 -- a type with another row than the format event's
 known_as : (kind known : ℕ) (bytes : List ℕ) (body : Body) → IsTrue (kind == known) → (known == 15) ≡ false → IsBodyOf kind bytes body → body_for kind bytes ≡ Some body
@@ -106,8 +106,8 @@ one_fault kind bytes a b h k = sym (fault_named kind bytes a h) ∙ fault_named 
 no_known : (bytes : List ℕ) → AreBytes bytes → nat_le 62 (length bytes) ≡ true → (number_of (slice_range bytes 0 2) == 4) ≡ true → (get_or bytes 56 0 == 19) ≡ true → nat_le (get_or bytes (length bytes - 5) 0) 1 ≡ true → IsNoBody 15 bytes → ⊥
 unfolding format_at guard
 no_known bytes h a b c d n =
-    let read : format_at bytes ≡ Some (format_of bytes) = rw (a, b, c, d) refl in
-    n (format_of bytes) (format_spelled bytes (format_of bytes) h read)
+    let read : format_at bytes ≡ Some (format_body_of bytes) = rw (a, b, c, d) refl in
+    n (format_body_of bytes) (format_spelled bytes (format_body_of bytes) h read)
 
 bad_format : (bytes : List ℕ) → AreBytes bytes → IsNoBody 15 bytes → IsBadFormat bytes
 bad_format bytes h n =

@@ -13,7 +13,7 @@ use Rattle.cdc_event.specs.Number.{low_first}
 use Rattle.cdc_event.specs.Event.{magic, header_bytes, has_kind, Encodes}
 use Rattle.cdc_event.specs.Length.{HasGoodLength, HasLengthFault, least_length, kept_header, kept_bytes}
 use Rattle.cdc_event.specs.Reading.{IsBodyOf, HasFault}
-use Rattle.cdc_event.specs.File.{PlacedEvent, BeginsWith, setting_behind, is_misplaced, IsWhole, HasWholeFault, IsFaulty, by_length, by_body, IsUnfinished, in_header, in_body, AreEvents, AreFileEvents, AreEventsFrom, OneReading, Lengthens, GrownFileContinues, RestIsRead}
+use Rattle.cdc_event.specs.File.{PlacedEvent, BeginsWith, setting_behind, is_misplaced, IsWhole, HasWholeFault, IsFaulty, by_length, by_body, IsUnfinished, in_header, in_body, AreEvents, AreFileEvents, AreEventsFrom, FilesHaveOneReading, LengthensFile, GrownFileContinues, RestIsRead}
 use Rattle.cdc_event.proofs.Bodies.{test_cases}
 use Rattle.cdc_event.proofs.Whole.{SameParts, same_parts, own_body}
 use Rattle.cdc_event.proofs.Correspondence.{one_event as events_are_one, one_fault}
@@ -291,12 +291,12 @@ same_first first at checksum bytes more placed other events longer fault later a
       one_behind = sym one.one_rest;
     }
 
-lengthens_by : (placed other : PlacedEvent) (events longer : List PlacedEvent) (fault later : Option (ℕ × FileFault)) → placed ≡ other → Lengthens events longer fault later → Lengthens (placed ∷ events) (other ∷ longer) fault later
+lengthens_by : (placed other : PlacedEvent) (events longer : List PlacedEvent) (fault later : Option (ℕ × FileFault)) → placed ≡ other → LengthensFile events longer fault later → LengthensFile (placed ∷ events) (other ∷ longer) fault later
 lengthens_by placed other events longer fault later e l = record { new = l.new; goes_on = λ i. (sym e) i ∷ l.goes_on i; stays = l.stays }
 
 -- the events of more bytes begin with those of fewer, and a fault stays
 pub grown : (first : Bool) (at checksum : ℕ) (bytes more : List ℕ) (events longer : List PlacedEvent) (fault later : Option (ℕ × FileFault)) →
-    AreEvents first at checksum bytes events fault → AreEvents first at checksum (bytes ++ more) longer later → Lengthens events longer fault later
+    AreEvents first at checksum bytes events fault → AreEvents first at checksum (bytes ++ more) longer later → LengthensFile events longer fault later
 grown first at checksum bytes more [] longer None later a b = record { new = longer; goes_on = refl; stays = λ n. absurd (n refl) }
 grown first at checksum bytes more [] longer (Some (place, BadMagic)) later a b = absurd a
 grown first at checksum bytes more [] [] (Some (place, EventIsFaulty wrong)) None a b = absurd (faulty_or_unfinished first checksum wrong bytes more a.1 b)
@@ -340,7 +340,7 @@ pub magic_length : (bytes rest : List ℕ) → bytes ≡ magic ++ rest → 4 ≤
 magic_length bytes rest e = let size : length bytes ≡ length magic + length rest = ap length e ∙ length-append magic rest in omega arith
 
 file_grown : (bytes more : List ℕ) (events longer : List PlacedEvent) (fault later : Option (ℕ × FileFault)) →
-    AreFileEvents bytes events fault → AreFileEvents (bytes ++ more) longer later → Lengthens events longer fault later
+    AreFileEvents bytes events fault → AreFileEvents (bytes ++ more) longer later → LengthensFile events longer fault later
 file_grown bytes more events longer fault later (inl a) b = record { new = longer; goes_on = ap (λ v. v ++ longer) (sym a.1); stays = λ n. absurd (n a.2) }
 file_grown bytes more events longer fault later (inr (inl a)) (inl b) =
     let four : 4 ≤ length bytes = a.0 in
@@ -375,12 +375,12 @@ none_new events others (n ∷ new) old e f =
 pub some_fault : (place : ℕ × FileFault) → ◌≡◌ {A = Option (ℕ × FileFault)} (Some place) None → ⊥
 some_fault place e = cc
 
-one_end : (events others : List PlacedEvent) (fault other : Option (ℕ × FileFault)) → Lengthens events others fault other → Lengthens others events other fault → fault ≡ other
+one_end : (events others : List PlacedEvent) (fault other : Option (ℕ × FileFault)) → LengthensFile events others fault other → LengthensFile others events other fault → fault ≡ other
 one_end events others None None a b = refl
 one_end events others None (Some place) a b = (b.stays (some_fault place)).1
 one_end events others (Some place) other a b = sym (a.stays (some_fault place)).1
 
-pub one_reading : OneReading
+pub one_reading : FilesHaveOneReading
 one_reading at checksum bytes events others fault other a b =
     let l = grown_file_continues at checksum bytes [] events others fault other a (subst (λ v. AreEventsFrom at checksum v others other) (sym (append-nil bytes)) b) in
     let m = grown_file_continues at checksum bytes [] others events other fault b (subst (λ v. AreEventsFrom at checksum v events fault) (sym (append-nil bytes)) a) in

@@ -6,7 +6,7 @@ use Rattle.cdc_event.specs.declared.body.Body.{Body}
 use Rattle.cdc_event.specs.declared.body.Body.TheVariants.{Format}
 use Rattle.cdc_event.specs.Number.{low_first, number_of}
 use Rattle.cdc_event.specs.Event.{body_bytes, FitsBody}
-use Rattle.cdc_event.specs.Reading.{IsBodyOf, guard, format_of, format_at}
+use Rattle.cdc_event.specs.Reading.{IsBodyOf, guard, format_body_of, format_at}
 use Rattle.cdc_event.proofs.Numbers.{AreBytes}
 use Rattle.cdc_event.proofs.Fields.{length_range, part_step, number_bound, number_to_end, stands_to, read_at, read_to_end, byte_at}
 use Rattle.cdc_event.proofs.Steps.{guard_some, same_some, number_is, byte_is}
@@ -28,7 +28,7 @@ format_spelled bytes body h e =
     let place : length bytes - 4 + 4 ≡ length bytes = omega arith in
     let tail_bound : number_of (slice_range bytes (length bytes - 4) (length bytes)) < 256 ^ 4 = subst (λ n. number_of (slice_range bytes (length bytes - 4) n) < 256 ^ 4) place bound in
     let next : length bytes - 4 ≡ length bytes - 5 + 1 = omega arith in
-    let fact : IsBodyOf 15 bytes (format_of bytes)
+    let fact : IsBodyOf 15 bytes (format_body_of bytes)
     = record {
       fits = (size, number_bound 4 bytes 52 h (omega arith), omega arith, tail_bound);
       typed = refl;
@@ -55,7 +55,7 @@ format_again bytes text created lengths checksum tail h known e =
     rw (t0, w0.here, w3.here, w5.here, t1, w1.here, w2.here, w4.here, last) refl
 
 -- the fields of a format event's body, whatever its algorithm
-pub format_is : (bytes text : List ℕ) (created : ℕ) (lengths : List ℕ) (checksum tail : ℕ) → FitsBody (Format text created lengths checksum tail) → bytes ≡ body_bytes (Format text created lengths checksum tail) → format_of bytes ≡ Format text created lengths checksum tail
+pub format_is : (bytes text : List ℕ) (created : ℕ) (lengths : List ℕ) (checksum tail : ℕ) → FitsBody (Format text created lengths checksum tail) → bytes ≡ body_bytes (Format text created lengths checksum tail) → format_body_of bytes ≡ Format text created lengths checksum tail
 unfolding body_bytes FitsBody
 format_is bytes text created lengths checksum tail h e =
     let size : length bytes ≡ 12 + (length text + length lengths) = ap length e ∙ body_size (Format text created lengths checksum tail) in

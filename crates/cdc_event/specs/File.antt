@@ -102,8 +102,8 @@ AreEventsFrom zero checksum bytes events fault = AreFileEvents bytes events faul
 AreEventsFrom (suc at) checksum bytes events fault = AreEvents false (suc at) checksum bytes events fault
 
 -- law: bytes are read in one way
-abbrev pub OneReading : Type 0
-OneReading =
+abbrev pub FilesHaveOneReading : Type 0
+FilesHaveOneReading =
     (at checksum : ℕ) (bytes : List ℕ) (events others : List PlacedEvent) (fault other : Option (ℕ × FileFault))
     → AreEventsFrom at checksum bytes events fault → AreEventsFrom at checksum bytes others other
     → (events ≡ others) × (fault ≡ other)
@@ -115,7 +115,7 @@ EachIsRead =
     → (events : List PlacedEvent) × (fault : Option (ℕ × FileFault)) × AreEventsFrom at checksum bytes events fault
 
 -- the events of more bytes begin with those of fewer, and a fault stays
-pub record Lengthens (events more : List PlacedEvent) (fault later : Option (ℕ × FileFault)) : Type 0 where
+pub record LengthensFile (events more : List PlacedEvent) (fault later : Option (ℕ × FileFault)) : Type 0 where
   pub new : List PlacedEvent
   pub goes_on : more ≡ events ++ new
   pub stays : fault ≢ None → (new ≡ []) × (later ≡ fault)
@@ -125,7 +125,7 @@ abbrev pub GrownFileContinues : Type 0
 GrownFileContinues =
     (at checksum : ℕ) (bytes more : List ℕ) (events longer : List PlacedEvent) (fault later : Option (ℕ × FileFault))
     → AreEventsFrom at checksum bytes events fault → AreEventsFrom at checksum (bytes ++ more) longer later
-    → Lengthens events longer fault later
+    → LengthensFile events longer fault later
 
 -- law: what is read from the end of an event on are the events behind it, and the same fault
 abbrev pub RestIsRead : Type 0

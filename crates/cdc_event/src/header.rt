@@ -3,11 +3,15 @@
 ghost use Rattle.std.specs.Prelude.{◌≡◌, ◌+◌, ◌^◌, ◌<◌, ◌≤◌, ◌↔◌, IsOk, IfErr, length};
 ghost use Rattle.cdc_event.specs.Event.{header_bytes, FitsHeader};
 ghost use Rattle.cdc_event.specs.Length.{tail_length, least_length, HasGoodLength, HasLengthFault};
+ghost use Rattle.cdc_event.specs.Length.{shortened as specs_shortened};
 ghost use Rattle.cdc_event.specs.declared.fault.EventFault.TheVariants.{ShortLength, TooLong};
 
 use crate::fault::EventFault;
 use crate::kind::FORMAT;
 use crate::number::{number_2, number_4};
+
+/// The four bytes that begin a log file.
+pub const MAGIC: [u8; 4] = [254, 98, 105, 110];
 
 /// The bytes of a header.
 pub const HEADER_LENGTH: usize = 19;
@@ -60,8 +64,8 @@ fn header_of(bytes: &[u8]) -> Header
     }
 }
 
-/// How many bytes of an event's end are its checksum: under setting 1 each event ends with four, but for
-/// a format event.
+// How many bytes of an event's end are its checksum: under setting 1 each event ends with four, but for
+// a format event.
 pub(crate) fn checksum_length(checksum: u8, kind: u8) -> u32
     ensures { result ≡ tail_length checksum kind }
 {
@@ -69,6 +73,18 @@ pub(crate) fn checksum_length(checksum: u8, kind: u8) -> u32
         CHECKSUM_LENGTH
     } else {
         0
+    }
+}
+
+// The header with so much less in its length.
+pub(crate) fn shortened(header: Header, less: u32) -> Header
+    requires { less ≤ header.length }
+    ensures value { result ≡ specs_shortened less header }
+    ensures fits { FitsHeader header }
+{
+    Header {
+        length: header.length - less,
+        ..header
     }
 }
 

@@ -1,5 +1,8 @@
 //! The types of events that have a layout of their own.
 
+ghost use Rattle.std.specs.Prelude.{◌≡◌};
+ghost use Rattle.cdc_event.specs.Event.{is_rows_kind};
+
 pub const QUERY: u8 = 2;
 
 pub const ROTATE: u8 = 4;
@@ -19,3 +22,10 @@ pub const PARTIAL: u8 = 39;
 pub const COMPRESSED: u8 = 40;
 /// This service's own.
 pub const TIMESTAMP: u8 = 200;
+
+/// Whether this is the type of a row event: 23 to 25 and 30 to 32.
+pub fn is_rows(kind: u8) -> bool
+    ensures { result ≡ is_rows_kind kind }
+{
+    (kind >= 23 && kind <= 25) || (kind >= 30 && kind <= 32)
+}

@@ -1,6 +1,6 @@
 //! Laws of the event encoding and of a file's events. Each function does nothing; its clause is the law.
 
-ghost use Rattle.cdc_event.specs.File.{EachIsRead, OneReading, GrownFileContinues, RestIsRead};
+ghost use Rattle.cdc_event.specs.File.{EachIsRead, FilesHaveOneReading, GrownFileContinues, RestIsRead};
 ghost use Rattle.cdc_event.specs.Laws.{WrittenIsRead, OneEvent, OneByteList, NoFront, OneFault, FormatByFields};
 
 /// What was written is read again, where nothing ends with a checksum, but for a format event whose
@@ -34,7 +34,7 @@ pub fn each_file_is_read()
 
 /// The bytes of a file, or of a file from an event's end on, have one list of events and one fault at most.
 pub fn file_is_read_in_one_way()
-    ensures { OneReading }
+    ensures { FilesHaveOneReading }
 {}
 
 /// A file that has grown keeps the events that it had, and its fault where it had one.

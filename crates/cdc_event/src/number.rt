@@ -13,7 +13,7 @@ pub(crate) fn bytes_2(number: u16) -> [u8; 2]
 
 /// The four bytes of a number.
 #[tactic(auto, using(crate::proofs::Numbers::low_first_4))]
-pub(crate) fn bytes_4(number: u32) -> [u8; 4]
+pub fn bytes_4(number: u32) -> [u8; 4]
     ensures { result ≡ low_first 4 number }
 {
     number.to_le_bytes()
@@ -38,7 +38,7 @@ pub(crate) fn bytes_8(number: u64) -> [u8; 8]
 
 /// The number that two bytes spell.
 #[tactic(auto, using(crate::proofs::Numbers::number_of_2))]
-pub(crate) fn number_2(bytes: &[u8]) -> u16
+pub fn number_2(bytes: &[u8]) -> u16
     requires { length bytes.now ≡ 2 }
     ensures { result ≡ number_of bytes.now }
 {
@@ -47,7 +47,7 @@ pub(crate) fn number_2(bytes: &[u8]) -> u16
 
 /// The number that four bytes spell.
 #[tactic(auto, using(crate::proofs::Numbers::number_of_4))]
-pub(crate) fn number_4(bytes: &[u8]) -> u32
+pub fn number_4(bytes: &[u8]) -> u32
     requires { length bytes.now ≡ 4 }
     ensures { result ≡ number_of bytes.now }
 {

@@ -4,7 +4,6 @@ ghost use Rattle.std.specs.Prelude.{◌≡◌, ℕ, ◌+◌, ◌<◌, ◌≤◌,
 ghost use Rattle.cdc_event.specs.Reading.{format_at, query_at, rotate_at, xid_at, rows_query_at, table_map_at, prepare_at, timestamp_at, body_at, event_of, Gives, HasFault, HasKnownAlgorithm};
 ghost use Rattle.cdc_event.specs.Reading.{fault_of as specs_fault_of};
 ghost use Rattle.cdc_event.specs.Length.{HasGoodLength, kept_header, kept_bytes};
-ghost use Rattle.cdc_event.specs.Length.{shortened as specs_shortened};
 ghost use Rattle.cdc_event.specs.Event.{FitsHeader, header_bytes, is_rows_kind, Encodes};
 ghost use Rattle.cdc_event.specs.declared.event.Event.{Event};
 ghost use Rattle.cdc_event.specs.declared.fault.EventFault.{EventFault};
@@ -13,13 +12,11 @@ ghost use Rattle.cdc_event.specs.declared.fault.ReadError.TheVariants.{Fault};
 use crate::body::Body;
 use crate::event::Event;
 use crate::fault::{EventFault, ReadError};
-use crate::header::{FORMAT_VERSION, HEADER_LENGTH, Header, checksum_length};
+use crate::header::{FORMAT_VERSION, HEADER_LENGTH, Header, checksum_length, shortened};
 use crate::kind;
 use crate::number::{number_2, number_4, number_6, number_8};
+use crate::offsets::*;
 use cdc_base::{Blob, Memory, Xid, gtrid_of};
-
-/// The fewest bytes of a format event's body: with no byte in its list of lengths.
-const FORMAT_LEAST: usize = 62;
 
 // A part of the first `end` bytes, shared.
 fn part(body: &Blob, end: usize, from: usize, to: usize) -> Result<Blob, Memory>
@@ -31,8 +28,6 @@ fn part(body: &Blob, end: usize, from: usize, to: usize) -> Result<Blob, Memory>
     body.part(from, to)
 }
 
-// Thread 0..4, seconds 4..8, length of the database's name 8, error 9..11, length of the status variables
-// 11..13; then the status variables, the name, a zero byte, and the text to the end.
 #[tactic(auto, unfolding(crate::specs::Reading::query_at, crate::specs::Reading::guard))]
 fn read_query(body: &Blob, end: usize) -> Result<Option<Body>, Memory>
     requires { end ≤ length body.now }
@@ -40,25 +35,24 @@ fn read_query(body: &Blob, end: usize) -> Result<Option<Body>, Memory>
     ensures memory { OnErr result (IsSome (query_at (take end body.now))) }
 {
     let bytes = &body.bytes()[..end];
-    if bytes.len() < 13 {
+    if bytes.len() < QUERY_STATUS {
         return Ok(None);
     }
-    let db_from = 13 + number_2(&bytes[11..13]) as usize;
-    let zero = db_from + bytes[8] as usize;
+    let db_from = QUERY_STATUS + number_2(&bytes[QUERY_STATUS_LENGTH..QUERY_STATUS]) as usize;
+    let zero = db_from + bytes[QUERY_DB_LENGTH] as usize;
     if bytes.len() <= zero || bytes[zero] != 0 {
         return Ok(None);
     }
     Ok(Some(Body::Query {
-        thread: number_4(&bytes[0..4]),
-        seconds: number_4(&bytes[4..8]),
-        error: number_2(&bytes[9..11]),
-        status: part(body, end, 13, db_from)?,
+        thread: number_4(&bytes[0..QUERY_SECONDS]),
+        seconds: number_4(&bytes[QUERY_SECONDS..QUERY_DB_LENGTH]),
+        error: number_2(&bytes[QUERY_ERROR..QUERY_STATUS_LENGTH]),
+        status: part(body, end, QUERY_STATUS, db_from)?,
         db: part(body, end, db_from, zero)?,
         text: part(body, end, zero + 1, end)?,
     }))
 }
 
-// Position 0..8, and the file's name to the end.
 #[tactic(auto, unfolding(crate::specs::Reading::rotate_at, crate::specs::Reading::guard))]
 fn read_rotate(body: &Blob, end: usize) -> Result<Option<Body>, Memory>
     requires { end ≤ length body.now }
@@ -66,17 +60,15 @@ fn read_rotate(body: &Blob, end: usize) -> Result<Option<Body>, Memory>
     ensures memory { OnErr result (IsSome (rotate_at (take end body.now))) }
 {
     let bytes = &body.bytes()[..end];
-    if bytes.len() < 8 {
+    if bytes.len() < ROTATE_NAME {
         return Ok(None);
     }
     Ok(Some(Body::Rotate {
-        position: number_8(&bytes[0..8]),
-        name: part(body, end, 8, end)?,
+        position: number_8(&bytes[0..ROTATE_NAME]),
+        name: part(body, end, ROTATE_NAME, end)?,
     }))
 }
 
-// Version 0..2, text 2..52, creation time 52..56, length of a header 56; then the list of lengths, and at the
-// end the checksum algorithm and four bytes.
 #[tactic(auto, unfolding(crate::specs::Reading::format_at, crate::specs::Reading::guard))]
 fn read_format(body: &Blob, end: usize) -> Result<Option<Body>, Memory>
     requires { end ≤ length body.now }
@@ -87,28 +79,28 @@ fn read_format(body: &Blob, end: usize) -> Result<Option<Body>, Memory>
     if bytes.len() < FORMAT_LEAST {
         return Ok(None);
     }
-    let checksum = bytes[end - 5];
-    if number_2(&bytes[0..2]) != FORMAT_VERSION
-        || bytes[56] as usize != HEADER_LENGTH
+    let checksum_at = end - FORMAT_CHECKSUM_FROM_END;
+    let checksum = bytes[checksum_at];
+    if number_2(&bytes[0..FORMAT_TEXT]) != FORMAT_VERSION
+        || bytes[FORMAT_HEADER_LENGTH] as usize != HEADER_LENGTH
         || checksum > 1
     {
         return Ok(None);
     }
     Ok(Some(Body::Format {
-        text: part(body, end, 2, 52)?,
-        created: number_4(&bytes[52..56]),
-        lengths: part(body, end, 57, end - 5)?,
+        text: part(body, end, FORMAT_TEXT, FORMAT_CREATED)?,
+        created: number_4(&bytes[FORMAT_CREATED..FORMAT_HEADER_LENGTH]),
+        lengths: part(body, end, FORMAT_LENGTHS, checksum_at)?,
         checksum,
-        tail: number_4(&bytes[end - 4..]),
+        tail: number_4(&bytes[end - FORMAT_TAIL_FROM_END..]),
     }))
 }
 
-// The transaction's number, 8 bytes.
 #[tactic(auto, unfolding(crate::specs::Reading::xid_at, crate::specs::Reading::guard))]
 fn read_xid(bytes: &[u8]) -> Option<Body>
     ensures { result ≡ xid_at bytes.now }
 {
-    if bytes.len() != 8 {
+    if bytes.len() != XID_LENGTH {
         return None;
     }
     Some(Body::Xid {
@@ -116,7 +108,6 @@ fn read_xid(bytes: &[u8]) -> Option<Body>
     })
 }
 
-// A byte that readers ignore, and the text to the end.
 #[tactic(auto, unfolding(crate::specs::Reading::rows_query_at, crate::specs::Reading::guard))]
 fn read_rows_query(body: &Blob, end: usize) -> Result<Option<Body>, Memory>
     requires { end ≤ length body.now }
@@ -124,17 +115,15 @@ fn read_rows_query(body: &Blob, end: usize) -> Result<Option<Body>, Memory>
     ensures memory { OnErr result (IsSome (rows_query_at (take end body.now))) }
 {
     let bytes = &body.bytes()[..end];
-    if bytes.len() < 1 {
+    if bytes.len() < ROWS_QUERY_TEXT {
         return Ok(None);
     }
     Ok(Some(Body::RowsQuery {
         size: bytes[0],
-        text: part(body, end, 1, end)?,
+        text: part(body, end, ROWS_QUERY_TEXT, end)?,
     }))
 }
 
-// The table's number 0..6, flags 6..8, length of the database's name 8; then the name, a zero byte, the length
-// of the table's name, the name, a zero byte, and the rest to the end.
 #[tactic(auto, unfolding(crate::specs::Reading::table_map_at, crate::specs::Reading::guard))]
 fn read_table_map(body: &Blob, end: usize) -> Result<Option<Body>, Memory>
     requires { end ≤ length body.now }
@@ -142,10 +131,10 @@ fn read_table_map(body: &Blob, end: usize) -> Result<Option<Body>, Memory>
     ensures memory { OnErr result (IsSome (table_map_at (take end body.now))) }
 {
     let bytes = &body.bytes()[..end];
-    if bytes.len() < 9 {
+    if bytes.len() < TABLE_MAP_DB {
         return Ok(None);
     }
-    let zero = 9 + bytes[8] as usize;
+    let zero = TABLE_MAP_DB + bytes[TABLE_MAP_DB_LENGTH] as usize;
     if bytes.len() <= zero + 1 || bytes[zero] != 0 {
         return Ok(None);
     }
@@ -155,49 +144,48 @@ fn read_table_map(body: &Blob, end: usize) -> Result<Option<Body>, Memory>
         return Ok(None);
     }
     Ok(Some(Body::TableMap {
-        table: number_6(&bytes[0..6]),
-        flags: number_2(&bytes[6..8]),
-        db: part(body, end, 9, zero)?,
+        table: number_6(&bytes[0..TABLE_MAP_FLAGS]),
+        flags: number_2(&bytes[TABLE_MAP_FLAGS..TABLE_MAP_DB_LENGTH]),
+        db: part(body, end, TABLE_MAP_DB, zero)?,
         name: part(body, end, name_from, last_zero)?,
         rest: part(body, end, last_zero + 1, end)?,
     }))
 }
 
-// one_phase 0, format 1..5, both ids' lengths 5..9 and 9..13; then the ids, and nothing behind them.
 #[tactic(auto, unfolding(crate::specs::Reading::prepare_at, crate::specs::Reading::guard))]
 fn read_prepare(bytes: &[u8]) -> Option<Body>
     ensures { result ≡ prepare_at bytes.now }
 {
-    if bytes.len() < 13 {
+    if bytes.len() < PREPARE_GTRID {
         return None;
     }
-    let bqual_from = 13 + number_4(&bytes[5..9]) as usize;
-    if bytes.len() != bqual_from + number_4(&bytes[9..13]) as usize {
+    let bqual_from = PREPARE_GTRID
+        + number_4(&bytes[PREPARE_GTRID_LENGTH..PREPARE_BQUAL_LENGTH]) as usize;
+    if bytes.len() != bqual_from + number_4(&bytes[PREPARE_BQUAL_LENGTH..PREPARE_GTRID]) as usize {
         return None;
     }
-    let gtrid = gtrid_of(&bytes[13..bqual_from])?;
+    let gtrid = gtrid_of(&bytes[PREPARE_GTRID..bqual_from])?;
     let bqual = gtrid_of(&bytes[bqual_from..])?;
     Some(Body::XaPrepare {
         one_phase: bytes[0],
         xid: Xid {
             gtrid,
             bqual,
-            format: number_4(&bytes[1..5]),
+            format: number_4(&bytes[PREPARE_FORMAT..PREPARE_GTRID_LENGTH]),
         },
     })
 }
 
-// Class 0, value 1..9.
 #[tactic(auto, unfolding(crate::specs::Reading::timestamp_at, crate::specs::Reading::guard))]
 fn read_timestamp(bytes: &[u8]) -> Option<Body>
     ensures { result ≡ timestamp_at bytes.now }
 {
-    if bytes.len() != 9 {
+    if bytes.len() != TIMESTAMP_LENGTH {
         return None;
     }
     Some(Body::Timestamp {
         class: bytes[0],
-        value: number_8(&bytes[1..9]),
+        value: number_8(&bytes[TIMESTAMP_VALUE..]),
     })
 }
 
@@ -226,7 +214,7 @@ fn read_kind(kind: u8, body: &Blob, end: usize) -> Result<Option<Body>, Memory>
         kind::XA_PREPARE => Ok(read_prepare(&body.bytes()[..end])),
         kind::PARTIAL | kind::COMPRESSED => Ok(None),
         kind::TIMESTAMP => Ok(read_timestamp(&body.bytes()[..end])),
-        23..=25 | 30..=32 => Ok(Some(Body::Rows {
+        kind if kind::is_rows(kind) => Ok(Some(Body::Rows {
             bytes: front(body, end)?,
         })),
         _ => Ok(Some(Body::Skipped {
@@ -236,7 +224,7 @@ fn read_kind(kind: u8, body: &Blob, end: usize) -> Result<Option<Body>, Memory>
 }
 
 // What is wrong where a body is none of its type.
-fn fault_of(kind: u8) -> EventFault
+pub(crate) fn fault_of(kind: u8) -> EventFault
     ensures { result ≡ specs_fault_of kind }
 {
     match kind {
@@ -244,27 +232,6 @@ fn fault_of(kind: u8) -> EventFault
         kind::PARTIAL => EventFault::Partial,
         kind::FORMAT => EventFault::BadFormat,
         kind => EventFault::BadBody(kind),
-    }
-}
-
-// The blob's bytes, each of which is a byte.
-fn plain_bytes(body: &Blob) -> &[u8]
-    ensures value { result.now ≡ body.now }
-    ensures bytes { (i : ℕ) → slice_index body.now i < 256 }
-{
-    let bytes = body.bytes();
-    bytes
-}
-
-// The header with so much less in its length.
-fn shortened(header: Header, less: u32) -> Header
-    requires { less ≤ header.length }
-    ensures value { result ≡ specs_shortened less header }
-    ensures fits { FitsHeader header }
-{
-    Header {
-        length: header.length - less,
-        ..header
     }
 }
 
@@ -279,18 +246,11 @@ fn read_kept(header: &Header, body: &Blob, checksum: u8) -> Result<Event, ReadEr
 {
     let less = checksum_length(checksum, header.kind);
     let kept = shortened(*header, less);
-    let bytes = plain_bytes(body);
+    let bytes = body.bytes();
     match read_kind(header.kind, body, bytes.len() - less as usize)? {
         Some(body) => Ok(Event { header: kept, body }),
         None => Err(ReadError::Fault(fault_of(header.kind))),
     }
-}
-
-// Whether this is the type of a row event.
-fn is_rows(kind: u8) -> bool
-    ensures { result ≡ is_rows_kind kind }
-{
-    (kind >= 23 && kind <= 25) || (kind >= 30 && kind <= 32)
 }
 
 // The row event of a header and a body, which is kept as far as it is no checksum.
@@ -305,7 +265,7 @@ fn rows_event(header: &Header, mut body: Blob, checksum: u8) -> Event
 {
     let less = checksum_length(checksum, header.kind);
     let kept = shortened(*header, less);
-    let length = plain_bytes(&body).len();
+    let length = body.bytes().len();
     body.truncate(length - less as usize);
     Event {
         header: kept,
@@ -322,7 +282,7 @@ fn read_moved(header: &Header, body: Blob, checksum: u8) -> Result<Event, ReadEr
     ensures header { FitsHeader header.now }
     ensures bytes { (i : ℕ) → slice_index body i < 256 }
 {
-    if is_rows(header.kind) {
+    if kind::is_rows(header.kind) {
         Ok(rows_event(header, body, checksum))
     } else {
         read_kept(header, &body, checksum)

@@ -13,7 +13,7 @@ use cdc_base::{Blob, Buffer, Memory, Xid};
 
 /// The 19 bytes of a header.
 #[tactic(auto, unfolding(crate::specs::Event::header_bytes, crate::specs::Number::low_first))]
-fn header_array(header: &Header) -> [u8; HEADER_LENGTH]
+pub fn header_array(header: &Header) -> [u8; HEADER_LENGTH]
     ensures { result ≡ header_bytes header.now }
 {
     let seconds = bytes_4(header.seconds);
@@ -44,8 +44,8 @@ fn header_array(header: &Header) -> [u8; HEADER_LENGTH]
     ]
 }
 
-/// The fixed part of a query event: thread, seconds, the length of the database's name, error, and the
-/// length of the status variables.
+// The fixed part of a query event: thread, seconds, the length of the database's name, error, and the
+// length of the status variables.
 #[tactic(auto, unfolding(crate::specs::Number::low_first))]
 fn query_head(thread: u32, seconds: u32, db: u8, error: u16, status: u16) -> [u8; 13]
     ensures { result ≡ low_first 4 thread ++ (low_first 4 seconds ++ (db ∷ (low_first 2 error ++ low_first 2 status))) }
@@ -60,7 +60,7 @@ fn query_head(thread: u32, seconds: u32, db: u8, error: u16, status: u16) -> [u8
     ]
 }
 
-/// The fixed part of a table map: the table's number, flags, and the length of the database's name.
+// The fixed part of a table map: the table's number, flags, and the length of the database's name.
 #[tactic(auto, unfolding(crate::specs::Number::low_first))]
 fn table_head(table: u64, flags: u16, db: u8) -> [u8; 9]
     ensures { result ≡ low_first 6 table ++ (low_first 2 flags ++ (db ∷ [])) }
@@ -72,7 +72,7 @@ fn table_head(table: u64, flags: u16, db: u8) -> [u8; 9]
     ]
 }
 
-/// The fixed part of a prepare event: one_phase, format, and the lengths of both ids.
+// The fixed part of a prepare event: one_phase, format, and the lengths of both ids.
 #[tactic(auto, unfolding(crate::specs::Number::low_first))]
 fn prepare_head(one_phase: u8, format: u32, gtrid: u32, bqual: u32) -> [u8; 13]
     ensures { result ≡ one_phase ∷ (low_first 4 format ++ (low_first 4 gtrid ++ low_first 4 bqual)) }
@@ -86,7 +86,7 @@ fn prepare_head(one_phase: u8, format: u32, gtrid: u32, bqual: u32) -> [u8; 13]
     ]
 }
 
-/// The body of a timestamp event.
+// The body of a timestamp event.
 #[tactic(auto, unfolding(crate::specs::Number::low_first))]
 fn timestamp_array(class: u8, value: u64) -> [u8; 9]
     ensures { result ≡ class ∷ low_first 8 value }
@@ -97,7 +97,7 @@ fn timestamp_array(class: u8, value: u64) -> [u8; 9]
     ]
 }
 
-/// What stands between a format event's text and its list of lengths: when the log was made, and the length of a header.
+// What stands between a format event's text and its list of lengths: when the log was made, and the length of a header.
 #[tactic(auto, unfolding(crate::specs::Number::low_first))]
 fn created_array(created: u32) -> [u8; 5]
     ensures { result ≡ low_first 4 created ++ (19 ∷ []) }
@@ -112,7 +112,7 @@ fn created_array(created: u32) -> [u8; 5]
     ]
 }
 
-/// What stands behind a format event's list of lengths: the checksum algorithm and four bytes.
+// What stands behind a format event's list of lengths: the checksum algorithm and four bytes.
 #[tactic(auto, unfolding(crate::specs::Number::low_first))]
 fn tail_array(checksum: u8, tail: u32) -> [u8; 5]
     ensures { result ≡ checksum ∷ low_first 4 tail }
@@ -250,6 +250,20 @@ fn push_body(body: &Body, into: &mut Buffer) -> Result<(), Memory>
         Body::Timestamp { class, value } => into.push(&timestamp_array(*class, *value)),
         Body::Skipped { bytes } => into.push(bytes.bytes()),
     }
+}
+
+/// Appends the body's bytes. On `Memory` the buffer is unchanged.
+pub fn write_body(body: &Body, into: &mut Buffer) -> Result<(), Memory>
+    requires { FitsBody body.now }
+    ensures ok { OnOk result (into.new ≡ into.old ++ body_bytes body.now) }
+    ensures err { OnErr result (into.new ≡ into.old) }
+{
+    let length = into.len();
+    let written = push_body(body, into);
+    if written.is_err() {
+        into.truncate(length);
+    }
+    written
 }
 
 fn push_event(event: &Event, into: &mut Buffer) -> Result<(), Memory>

@@ -12,12 +12,16 @@ abbrev pub keeps_failure : HeldSource → Bool
 keeps_failure source = source.fails
 
 -- its one file
-abbrev pub held_files : HeldSource → List (List ℕ)
-held_files source = kept_of source ∷ []
+abbrev pub one_held_file : HeldSource → List (List ℕ)
+one_held_file source = kept_of source ∷ []
 
 -- the least place that was asked for
 abbrev pub held_lowest : HeldSource → Option Place
 held_lowest source = source.lowest
+
+-- the greatest place that was asked for
+abbrev pub held_highest : HeldSource → Option Place
+held_highest source = source.highest
 
 -- how many calls failed
 abbrev pub held_faults : HeldSource → ℕ

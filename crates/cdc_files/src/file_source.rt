@@ -6,7 +6,7 @@ ghost use Rattle.cdc_files.specs.Share.{shares, shares_fit};
 use crate::counted::counted;
 use crate::opened::{Opened, open_regular};
 use cdc_base::{Memory, Place, Text};
-use cdc_outside::{Failed, Source, lowest_place};
+use cdc_outside::{Failed, Source, highest_place, lowest_place};
 use std::alloc::Global;
 use std::fs::{Files, OpenFile};
 use std::os::unix::fs::FileExt;
@@ -22,6 +22,7 @@ pub struct FileSource<F> {
     files: Vec<Option<Opened<F>>>,
     all_open: bool,
     lowest: Option<Place>,
+    highest: Option<Place>,
     faults: u64,
     ghost few: { length files.items < 2 ^ 32 },
 }
@@ -35,6 +36,7 @@ impl<F: FileExt + OpenFile + Drop> FileSource<F> {
         requires { length paths.now < 2 ^ 32 }
         ensures sizes { IfOk result (λ source. ⟦<FileSource<F> as Source>⟧.sizes source ≡ shares (length paths.now)) }
         ensures lowest { IfOk result (λ source. ⟦<FileSource<F> as Source>⟧.lowest source ≡ None) }
+        ensures highest { IfOk result (λ source. ⟦<FileSource<F> as Source>⟧.highest source ≡ None) }
         ensures faults { IfOk result (λ source. ⟦<FileSource<F> as Source>⟧.faults source ≡ 0) }
     {
         let mut files = Vec::with_capacity(rt.alloc(), paths.len())?;
@@ -49,6 +51,7 @@ impl<F: FileExt + OpenFile + Drop> FileSource<F> {
         requires { length files.items < 2 ^ 32 }
         ensures sizes { IfOk result (λ source. ⟦<FileSource<F> as Source>⟧.sizes source ≡ shares (length files.items)) }
         ensures lowest { IfOk result (λ source. ⟦<FileSource<F> as Source>⟧.lowest source ≡ None) }
+        ensures highest { IfOk result (λ source. ⟦<FileSource<F> as Source>⟧.highest source ≡ None) }
         ensures faults { IfOk result (λ source. ⟦<FileSource<F> as Source>⟧.faults source ≡ 0) }
     {
         let mut opened = Vec::with_capacity(alloc, files.len())?;
@@ -60,6 +63,7 @@ impl<F: FileExt + OpenFile + Drop> FileSource<F> {
             files: opened,
             all_open,
             lowest: None,
+            highest: None,
             faults: 0,
         })
     }
@@ -68,6 +72,7 @@ impl<F: FileExt + OpenFile + Drop> FileSource<F> {
     pub fn single(alloc: Global, file: Option<F>) -> Result<FileSource<F>, Memory>
         ensures sizes { IfOk result (λ source. ⟦<FileSource<F> as Source>⟧.sizes source ≡ 2 ^ 54 ∷ []) }
         ensures lowest { IfOk result (λ source. ⟦<FileSource<F> as Source>⟧.lowest source ≡ None) }
+        ensures highest { IfOk result (λ source. ⟦<FileSource<F> as Source>⟧.highest source ≡ None) }
         ensures faults { IfOk result (λ source. ⟦<FileSource<F> as Source>⟧.faults source ≡ 0) }
     {
         let mut files = Vec::new(alloc);
@@ -100,6 +105,7 @@ impl<F: FileExt + OpenFile + Drop> FileSource<F> {
         ensures within { IfSome result (λ bytes. bytes ≤ 2 ^ 54 / length self.old.files.items) }
         ensures files { length self.new.files.items ≡ length self.old.files.items }
         ensures lowest { self.new.lowest ≡ self.old.lowest }
+        ensures highest { self.new.highest ≡ self.old.highest }
         ensures faults { self.new.faults ≡ self.old.faults }
     {
         let share = MOST_BYTES / self.files.len() as u64;
@@ -118,6 +124,7 @@ impl<F: FileExt + OpenFile + Drop> FileSource<F> {
         ensures within { IfSome result (λ read. read ≤ length into.old) }
         ensures files { length self.new.files.items ≡ length self.old.files.items }
         ensures lowest { self.new.lowest ≡ self.old.lowest }
+        ensures highest { self.new.highest ≡ self.old.highest }
         ensures faults { self.new.faults ≡ self.old.faults }
     {
         if !self.all_open {
@@ -152,6 +159,8 @@ impl<F: FileExt + OpenFile + Drop> Source for FileSource<F> {
 
     ghost lowest = { λ source. source.lowest };
 
+    ghost highest = { λ source. source.highest };
+
     ghost faults = { λ source. source.faults };
 
     ghost limit = { λ source. shares_fit (length source.files.items) };
@@ -169,6 +178,7 @@ impl<F: FileExt + OpenFile + Drop> Source for FileSource<F> {
 
     fn read_at(&mut self, file: u32, at: u64, into: &mut [u8]) -> Result<usize, Failed> {
         self.lowest = lowest_place(self.lowest, file, at);
+        self.highest = highest_place(self.highest, file, at, into.len());
         let read = self.read(Place { file, at }, into);
         counted(read, &mut self.faults)
     }

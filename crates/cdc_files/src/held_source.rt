@@ -2,12 +2,12 @@
 
 ghost use Rattle.std.specs.Prelude.{◌≡◌, ◌≤◌, ◌<◌, ◌-◌, ◌^◌, ◌↔◌, [], ◌∷◌, IsTrue, true, false, refl, length, map, min, sum, take, None, IfOk, IfSome, IsNone, IsErr};
 ghost use Rattle.cdc_outside.specs.Count.{RisesOnErr};
-ghost use Rattle.cdc_outside.specs.Source.{file_of, lowered, Reads};
+ghost use Rattle.cdc_outside.specs.Source.{behind, file_of, lowered, raised, ReadsFile};
 
 use crate::counted::counted;
 use crate::opened::open_regular;
 use cdc_base::{Memory, Place, Text};
-use cdc_outside::{Failed, Source, lowest_place};
+use cdc_outside::{Failed, Source, highest_place, lowest_place};
 use std::alloc::Global;
 use std::fs::{Files, OpenFile};
 use std::io::{ErrorKind, Read};
@@ -22,13 +22,14 @@ pub struct HeldSource {
     bytes: Vec<u8>,
     fails: bool,
     lowest: Option<Place>,
+    highest: Option<Place>,
     faults: u64,
     ghost short: { length bytes.items ≤ 1048577 },
     ghost fit: { sum (length bytes.items ∷ []) ≤ 2 ^ 54 },
 }
 
 impl HeldSource {
-    ghost use Rattle.cdc_files.specs.Held.{kept_of, keeps_failure, held_lowest, held_faults};
+    ghost use Rattle.cdc_files.specs.Held.{kept_of, keeps_failure, held_lowest, held_highest, held_faults};
 
     /// What stands at this path, read now; a failure where that is no regular file, or can't be read.
     pub fn open<F: Read + OpenFile + Drop, R: AllocGlobal + Files<File = F>>(
@@ -36,6 +37,7 @@ impl HeldSource {
         path: &Text,
     ) -> Result<HeldSource, Memory>
         ensures lowest { IfOk result (λ source. held_lowest source ≡ None) }
+        ensures highest { IfOk result (λ source. held_highest source ≡ None) }
         ensures faults { IfOk result (λ source. held_faults source ≡ 0) }
         ensures short { IfOk result (λ source. length (kept_of source) ≤ HELD_MOST) }
     {
@@ -48,6 +50,7 @@ impl HeldSource {
         // Where it is known what the reader has, that is kept, up to the limit.
         ensures whole { IfSome file (λ reader. IfSome (F.remaining reader) (λ bytes. IfOk result (λ source. keeps_failure source ≡ false → kept_of source ≡ take HELD_MOST bytes))) }
         ensures lowest { IfOk result (λ source. held_lowest source ≡ None) }
+        ensures highest { IfOk result (λ source. held_highest source ≡ None) }
         ensures faults { IfOk result (λ source. held_faults source ≡ 0) }
         ensures short { IfOk result (λ source. length (kept_of source) ≤ HELD_MOST) }
     {
@@ -60,6 +63,7 @@ impl HeldSource {
     fn read<F: Read + Drop>(alloc: Global, reader: F) -> Result<HeldSource, Memory>
         ensures whole { IfSome (F.remaining reader) (λ bytes. IfOk result (λ source. keeps_failure source ≡ false → kept_of source ≡ take HELD_MOST bytes)) }
         ensures lowest { IfOk result (λ source. held_lowest source ≡ None) }
+        ensures highest { IfOk result (λ source. held_highest source ≡ None) }
         ensures faults { IfOk result (λ source. held_faults source ≡ 0) }
         ensures short { IfOk result (λ source. length (kept_of source) ≤ HELD_MOST) }
     {
@@ -76,6 +80,7 @@ impl HeldSource {
         ensures bytes { kept_of result ≡ take HELD_MOST bytes.items }
         ensures fails { keeps_failure result ≡ fails }
         ensures lowest { held_lowest result ≡ None }
+        ensures highest { held_highest result ≡ None }
         ensures faults { held_faults result ≡ 0 }
         ensures short { length (kept_of result) ≤ HELD_MOST }
     {
@@ -84,6 +89,7 @@ impl HeldSource {
             bytes,
             fails,
             lowest: None,
+            highest: None,
             faults: 0,
         }
     }
@@ -101,6 +107,7 @@ impl HeldSource {
         ensures bytes { self.new.bytes ≡ self.old.bytes }
         ensures fails { self.new.fails ≡ self.old.fails }
         ensures lowest { self.new.lowest ≡ self.old.lowest }
+        ensures highest { self.new.highest ≡ self.old.highest }
         ensures faults { RisesOnErr (held_faults self.old) (held_faults self.new) result }
         ensures call { IsErr result ↔ IsTrue (keeps_failure self.old) }
     {
@@ -110,7 +117,7 @@ impl HeldSource {
 
     /// Puts as many bytes at the front of `into` as it takes and are kept behind `at`.
     fn copy(&self, at: u64, into: &mut [u8]) -> usize
-        ensures read { Reads (kept_of self.now) at into.new result }
+        ensures read { ReadsFile (kept_of self.now) at into.new result }
         ensures full { result ≡ min (length into.old) (length (kept_of self.now) - at) }
     {
         let bytes = self.bytes.as_slice();
@@ -122,15 +129,17 @@ impl HeldSource {
 }
 
 impl Source for HeldSource {
-    ghost use Rattle.cdc_files.specs.Held.{keeps_failure, held_files, held_lowest, held_faults};
+    ghost use Rattle.cdc_files.specs.Held.{keeps_failure, one_held_file, held_lowest, held_highest, held_faults};
 
     ghost tells = { true };
 
-    ghost held = { held_files };
+    ghost held = { one_held_file };
 
-    ghost sizes = { λ source. map length (held_files source) };
+    ghost sizes = { λ source. map length (one_held_file source) };
 
     ghost lowest = { held_lowest };
+
+    ghost highest = { held_highest };
 
     ghost faults = { held_faults };
 
@@ -140,9 +149,10 @@ impl Source for HeldSource {
 
     fn files(&mut self) -> Result<u32, Failed>
         ensures number { IfOk result (λ number. number ≡ 1) }
-        ensures held { held_files self.new ≡ held_files self.old }
+        ensures held { one_held_file self.new ≡ one_held_file self.old }
         ensures kept { keeps_failure self.new ≡ keeps_failure self.old }
         ensures lowest { held_lowest self.new ≡ held_lowest self.old }
+        ensures highest { held_highest self.new ≡ held_highest self.old }
         ensures faults { RisesOnErr (held_faults self.old) (held_faults self.new) result }
         ensures call { IsErr result ↔ IsTrue (keeps_failure self.old) }
     {
@@ -152,10 +162,11 @@ impl Source for HeldSource {
     fn length(&mut self, file: u32) -> Result<u64, Failed>
         requires first { 1 ≤ file }
         requires last { file ≤ 1 }
-        ensures exact { IfOk result (λ bytes. bytes ≡ length (file_of (held_files self.old) file)) }
-        ensures held { held_files self.new ≡ held_files self.old }
+        ensures exact { IfOk result (λ bytes. bytes ≡ length (file_of (one_held_file self.old) file)) }
+        ensures held { one_held_file self.new ≡ one_held_file self.old }
         ensures kept { keeps_failure self.new ≡ keeps_failure self.old }
         ensures lowest { held_lowest self.new ≡ held_lowest self.old }
+        ensures highest { held_highest self.new ≡ held_highest self.old }
         ensures faults { RisesOnErr (held_faults self.old) (held_faults self.new) result }
         ensures call { IsErr result ↔ IsTrue (keeps_failure self.old) }
     {
@@ -166,16 +177,18 @@ impl Source for HeldSource {
     fn read_at(&mut self, file: u32, at: u64, into: &mut [u8]) -> Result<usize, Failed>
         requires first { 1 ≤ file }
         requires last { file ≤ 1 }
-        ensures read { IfOk result (λ read. Reads (file_of (held_files self.old) file) at into.new read) }
-        ensures full { IfOk result (λ read. read ≡ min (length into.old) (length (file_of (held_files self.old) file) - at)) }
-        ensures held { held_files self.new ≡ held_files self.old }
+        ensures read { IfOk result (λ read. ReadsFile (file_of (one_held_file self.old) file) at into.new read) }
+        ensures full { IfOk result (λ read. read ≡ min (length into.old) (length (file_of (one_held_file self.old) file) - at)) }
+        ensures held { one_held_file self.new ≡ one_held_file self.old }
         ensures kept { keeps_failure self.new ≡ keeps_failure self.old }
         // Also where it failed.
         ensures lowest { held_lowest self.new ≡ lowered (held_lowest self.old) file at }
+        ensures highest { held_highest self.new ≡ raised (held_highest self.old) file (behind at (length into.old)) }
         ensures faults { RisesOnErr (held_faults self.old) (held_faults self.new) result }
         ensures call { IsErr result ↔ IsTrue (keeps_failure self.old) }
     {
         self.lowest = lowest_place(self.lowest, file, at);
+        self.highest = highest_place(self.highest, file, at, into.len());
         let read = self.copy(at, into);
         self.answer(read)
     }

@@ -12,7 +12,7 @@ use Rattle.cdc_gen.specs.declared.step.StepKind.{StepKind}
 use Rattle.cdc_gen.specs.declared.step.StepKind.TheVariants.{Prepare, Commit, Local, End}
 use Rattle.cdc_gen.specs.declared.step.Step.{Step}
 use Rattle.cdc_gen.specs.declared.step.Planned.{Planned}
-use Rattle.cdc_gen.specs.Script.{step_on, planned, nodes_of, steps_of, block_size, block_plan, going_round, first_commit, local_steps, block_steps, end_steps}
+use Rattle.cdc_gen.specs.Script.{step_on, planned, nodes_of, script_steps, block_size, block_plan, going_round, first_commit, local_steps, block_steps, end_steps}
 use Rattle.cdc_gen.specs.Growing.{growing_logs}
 
 -- ---- facts of all items
@@ -43,13 +43,13 @@ chosen_few false first second = omega arith
 pub nodes_few : (nodes : ℕ) (plan : Planned) → length (nodes_of nodes plan) ≤ 2
 nodes_few nodes plan = chosen_few (nat_le 2 nodes) plan.first (plan.first % nodes + 1)
 
-pub steps_few : (nodes : ℕ) (kind : StepKind) (plans : List Planned) → length (flat_map (steps_of nodes kind) plans) ≤ 2 * length plans
+pub steps_few : (nodes : ℕ) (kind : StepKind) (plans : List Planned) → length (flat_map (script_steps nodes kind) plans) ≤ 2 * length plans
 steps_few nodes kind [] = omega arith
 steps_few nodes kind (plan ∷ plans) =
     let first = length-map (nodes_of nodes plan) (step_on kind plan.number) in
     let few = nodes_few nodes plan in
     let rest = steps_few nodes kind plans in
-    let both = length-append (steps_of nodes kind plan) (flat_map (steps_of nodes kind) plans) in
+    let both = length-append (script_steps nodes kind plan) (flat_map (script_steps nodes kind) plans) in
     omega (arith, first, few, rest, both)
 
 maybe_few : (there : Bool) (step : Step) → length (if there then step ∷ [] else []) ≤ 1
@@ -100,12 +100,12 @@ more_ends steps nodes count =
 
 -- ---- the nodes of a transaction
 
-pub one_node : (nodes : ℕ) (kind : StepKind) (plan : Planned) → nodes < 2 → steps_of nodes kind plan ≡ step_on kind plan.number plan.first ∷ []
+pub one_node : (nodes : ℕ) (kind : StepKind) (plan : Planned) → nodes < 2 → script_steps nodes kind plan ≡ step_on kind plan.number plan.first ∷ []
 one_node nodes kind plan h =
     ap (λ both. map (step_on kind plan.number) (if both then plan.first ∷ (plan.first % nodes + 1) ∷ [] else plan.first ∷ [])) (lt-leb 2 nodes h)
 
 pub two_nodes : (nodes : ℕ) (kind : StepKind) (plan : Planned) → 2 ≤ nodes →
-    steps_of nodes kind plan ≡ step_on kind plan.number plan.first ∷ step_on kind plan.number (plan.first % nodes + 1) ∷ []
+    script_steps nodes kind plan ≡ step_on kind plan.number plan.first ∷ step_on kind plan.number (plan.first % nodes + 1) ∷ []
 two_nodes nodes kind plan h =
     ap (λ both. map (step_on kind plan.number) (if both then plan.first ∷ (plan.first % nodes + 1) ∷ [] else plan.first ∷ [])) (le-leb 2 nodes h)
 
@@ -117,7 +117,7 @@ local_due nodes k h = ap (λ due. if due then step_on Local k ((k / 100 - 1) % n
 
 pub two_more : (nodes count : ℕ) (kind : StepKind) (plan : Planned) (steps : List Step) (new : List (List ℕ)) → 2 ≤ nodes → count ≡ nodes →
     new ≡ growing_logs nodes ((steps ++ step_on kind plan.number plan.first ∷ []) ++ step_on kind plan.number (plan.first % count + 1) ∷ []) →
-    new ≡ growing_logs nodes (steps ++ steps_of nodes kind plan)
+    new ≡ growing_logs nodes (steps ++ script_steps nodes kind plan)
 two_more nodes count kind plan steps new both same e =
     let first = step_on kind plan.number plan.first in
     e ∙ ap (λ all. growing_logs nodes all)
@@ -140,20 +140,20 @@ always (Err e) p = tt
 -- the steps of a block, part by part
 block_is : (seed nodes count block start : ℕ) (steps : List Step) (plan : List Planned) →
     plan ≡ block_plan seed nodes count block → start ≡ first_commit seed count block →
-    (((steps ++ flat_map (steps_of nodes Prepare) plan) ++ flat_map (steps_of nodes Commit) (drop start plan)) ++ flat_map (steps_of nodes Commit) (take start plan)) ++ local_steps nodes (4 * block + block_size count block)
+    (((steps ++ flat_map (script_steps nodes Prepare) plan) ++ flat_map (script_steps nodes Commit) (drop start plan)) ++ flat_map (script_steps nodes Commit) (take start plan)) ++ local_steps nodes (4 * block + block_size count block)
     ≡ steps ++ block_steps seed nodes count block
 unfolding block_steps
 block_is seed nodes count block start steps plan p s =
-    let commits = flat_map-append (steps_of nodes Commit) (drop start plan) (take start plan) in
+    let commits = flat_map-append (script_steps nodes Commit) (drop start plan) (take start plan) in
     rw (← p, ← s, commits) (simp append_assoc)
 
 pub block_done : (seed nodes count block start size : ℕ) (steps : List Step) (whole front back : List Planned) (new : List (List ℕ)) →
     whole ≡ block_plan seed nodes count block → start ≡ first_commit seed count block → size ≡ block_size count block → front ≡ take start whole → back ≡ drop start whole →
-    new ≡ growing_logs nodes ((((steps ++ flat_map (steps_of nodes Prepare) whole) ++ flat_map (steps_of nodes Commit) back) ++ flat_map (steps_of nodes Commit) front) ++ local_steps nodes (4 * block + size)) →
+    new ≡ growing_logs nodes ((((steps ++ flat_map (script_steps nodes Prepare) whole) ++ flat_map (script_steps nodes Commit) back) ++ flat_map (script_steps nodes Commit) front) ++ local_steps nodes (4 * block + size)) →
     new ≡ growing_logs nodes (steps ++ block_steps seed nodes count block)
 block_done seed nodes count block start size steps whole front back new w s z f b e =
-    let commit = steps_of nodes Commit in
-    let first = steps ++ flat_map (steps_of nodes Prepare) whole in
+    let commit = script_steps nodes Commit in
+    let first = steps ++ flat_map (script_steps nodes Prepare) whole in
     e ∙ ap (λ items. growing_logs nodes (((first ++ flat_map commit items) ++ flat_map commit front) ++ local_steps nodes (4 * block + size))) b
     ∙ ap (λ items. growing_logs nodes (((first ++ flat_map commit (drop start whole)) ++ flat_map commit items) ++ local_steps nodes (4 * block + size))) f
     ∙ ap (λ n. growing_logs nodes (((first ++ flat_map commit (drop start whole)) ++ flat_map commit (take start whole)) ++ local_steps nodes (4 * block + n))) z

@@ -20,8 +20,8 @@ abbrev pub nodes_of : ℕ → Planned → List ℕ
 nodes_of nodes plan = if nat_le 2 nodes then plan.first ∷ (plan.first % nodes + 1) ∷ [] else plan.first ∷ []
 
 -- a step of a transaction on each of its nodes
-abbrev pub steps_of : ℕ → StepKind → Planned → List Step
-steps_of nodes kind plan = map (step_on kind plan.number) (nodes_of nodes plan)
+abbrev pub script_steps : ℕ → StepKind → Planned → List Step
+script_steps nodes kind plan = map (step_on kind plan.number) (nodes_of nodes plan)
 
 -- how many transactions a block has
 abbrev pub block_size : ℕ → ℕ → ℕ
@@ -47,8 +47,8 @@ local_steps nodes k = if k % 100 == 0 then step_on Local k ((k / 100 - 1) % node
 unfoldable pub block_steps : ℕ → ℕ → ℕ → ℕ → List Step
 block_steps seed nodes count block =
     let plan = block_plan seed nodes count block in
-    flat_map (steps_of nodes Prepare) plan
-    ++ flat_map (steps_of nodes Commit) (going_round (first_commit seed count block) plan)
+    flat_map (script_steps nodes Prepare) plan
+    ++ flat_map (script_steps nodes Commit) (going_round (first_commit seed count block) plan)
     ++ local_steps nodes (4 * block + block_size count block)
 
 -- the end, on each node

@@ -4,7 +4,7 @@ ghost use Rattle.std.specs.Prelude.{◌≡◌, ℕ, ◌+◌, ◌*◌, ◌<◌, �
 ghost use Rattle.std.specs.List.{range_with_len, flat_map, AllByRecursion};
 ghost use Rattle.cdc_gen.specs.declared.step.Step.{Step as OneStep};
 ghost use Rattle.cdc_gen.specs.Draws.{state_after};
-ghost use Rattle.cdc_gen.specs.Script.{planned, steps_of, going_round, local_steps, block_size, block_plan, block_steps};
+ghost use Rattle.cdc_gen.specs.Script.{planned, script_steps, going_round, local_steps, block_size, block_plan, block_steps};
 ghost use Rattle.cdc_gen.specs.Growing.{growing_logs, IsPlanned};
 
 use crate::draws::Draws;
@@ -48,7 +48,7 @@ fn put_transaction(
     requires plan { IsPlanned (length logs.old.items) plan.now }
     ensures nodes { length logs.new.items ≡ length logs.old.items }
     ensures ok { (nodes : ℕ) (steps : List OneStep) → length steps + 2 ≤ 1000000 → logs.old.items ≡ growing_logs nodes steps
-        → OnOk result (logs.new.items ≡ growing_logs nodes (steps ++ steps_of nodes kind plan.now)) }
+        → OnOk result (logs.new.items ≡ growing_logs nodes (steps ++ script_steps nodes kind plan.now)) }
 {
     let nodes = number_of(logs);
     let number = plan.number;
@@ -73,7 +73,7 @@ fn put_all(
     requires few { length plan.now ≤ 4 }
     ensures nodes { length logs.new.items ≡ length logs.old.items }
     ensures ok { (nodes : ℕ) (steps : List OneStep) → length steps + 2 * length plan.now ≤ 1000000 → logs.old.items ≡ growing_logs nodes steps
-        → OnOk result (logs.new.items ≡ growing_logs nodes (steps ++ flat_map (steps_of nodes kind) plan.now)) }
+        → OnOk result (logs.new.items ≡ growing_logs nodes (steps ++ flat_map (script_steps nodes kind) plan.now)) }
 {
     for planned in plan {
         put_transaction(alloc, logs, kind, planned)?;

@@ -1,8 +1,8 @@
 //! Sources in memory.
 
-ghost use Rattle.std.specs.Prelude.{◌≡◌, ◌≤◌, ◌<◌, ◌-◌, ◌^◌, IsTrue, false, true, refl, length, map, min, sum, None, IfOk, IsOk};
+ghost use Rattle.std.specs.Prelude.{◌≡◌, ◌≤◌, ◌<◌, ◌-◌, ◌^◌, false, true, refl, length, map, min, sum, None, IfOk, IsOk};
 ghost use Rattle.cdc_outside.specs.Count.{RisesOnErr};
-ghost use Rattle.cdc_outside.specs.Source.{file_of, size_of, lowered, Reads};
+ghost use Rattle.cdc_outside.specs.Source.{behind, file_of, lowered, raised, ReadsFile};
 ghost use Rattle.cdc_memory.specs.Calls.{at_first, Counts};
 
 use crate::calls::CallPlan;
@@ -19,15 +19,16 @@ pub struct MemSource {
 }
 
 impl MemSource {
-    ghost use Rattle.cdc_memory.specs.Source.{files_of, lowest_of, calls_of};
+    ghost use Rattle.cdc_memory.specs.Source.{held_files, lowest_of, highest_of, calls_of};
 
     /// These files, their bytes shared. The k-th call (from 1, of any kind) fails for each k of `fails`, and no
     /// other does.
     pub fn new(alloc: Global, files: &[Blob], fails: &[u64]) -> Result<MemSource, Memory>
         requires few { length files.now < 2 ^ 32 }
         requires fit { sum (map length files.now) ≤ 2 ^ 54 }
-        ensures files { IfOk result (λ source. files_of source ≡ files.now) }
+        ensures files { IfOk result (λ source. held_files source ≡ files.now) }
         ensures lowest { IfOk result (λ source. lowest_of source ≡ None) }
+        ensures highest { IfOk result (λ source. highest_of source ≡ None) }
         ensures calls { IfOk result (λ source. calls_of source ≡ at_first fails.now) }
     {
         Ok(MemSource {
@@ -52,15 +53,17 @@ impl MemSource {
 }
 
 impl Source for MemSource {
-    ghost use Rattle.cdc_memory.specs.Source.{files_of, lowest_of, calls_of};
+    ghost use Rattle.cdc_memory.specs.Source.{held_files, lowest_of, highest_of, calls_of};
 
     ghost tells = { true };
 
-    ghost held = { files_of };
+    ghost held = { held_files };
 
-    ghost sizes = { λ source. map length (files_of source) };
+    ghost sizes = { λ source. map length (held_files source) };
 
     ghost lowest = { lowest_of };
+
+    ghost highest = { highest_of };
 
     ghost faults = { λ source. (calls_of source).faults };
 
@@ -69,9 +72,10 @@ impl Source for MemSource {
     ghost sizes_are_lengths = { λ source told. refl };
 
     fn files(&mut self) -> Result<u32, Failed>
-        ensures number { IfOk result (λ number. number ≡ length (files_of self.old)) }
-        ensures held { files_of self.new ≡ files_of self.old }
+        ensures number { IfOk result (λ number. number ≡ length (held_files self.old)) }
+        ensures held { held_files self.new ≡ held_files self.old }
         ensures lowest { lowest_of self.new ≡ lowest_of self.old }
+        ensures highest { highest_of self.new ≡ highest_of self.old }
         ensures faults { RisesOnErr (calls_of self.old).faults (calls_of self.new).faults result }
         ensures call { Counts false (calls_of self.old) (calls_of self.new) result }
     {
@@ -81,10 +85,11 @@ impl Source for MemSource {
 
     fn length(&mut self, file: u32) -> Result<u64, Failed>
         requires first { 1 ≤ file }
-        requires last { file ≤ length (files_of self.old) }
-        ensures exact { IfOk result (λ bytes. bytes ≡ length (file_of (files_of self.old) file)) }
-        ensures held { files_of self.new ≡ files_of self.old }
+        requires last { file ≤ length (held_files self.old) }
+        ensures exact { IfOk result (λ bytes. bytes ≡ length (file_of (held_files self.old) file)) }
+        ensures held { held_files self.new ≡ held_files self.old }
         ensures lowest { lowest_of self.new ≡ lowest_of self.old }
+        ensures highest { highest_of self.new ≡ highest_of self.old }
         ensures faults { RisesOnErr (calls_of self.old).faults (calls_of self.new).faults result }
         ensures call { Counts false (calls_of self.old) (calls_of self.new) result }
     {
@@ -94,15 +99,16 @@ impl Source for MemSource {
 
     fn read_at(&mut self, file: u32, at: u64, into: &mut [u8]) -> Result<usize, Failed>
         requires first { 1 ≤ file }
-        requires last { file ≤ length (files_of self.old) }
-        ensures read { IfOk result (λ read. Reads (file_of (files_of self.old) file) at into.new read) }
-        ensures full { IfOk result (λ read. read ≡ min (length into.old) (length (file_of (files_of self.old) file) - at)) }
-        ensures held { files_of self.new ≡ files_of self.old }
+        requires last { file ≤ length (held_files self.old) }
+        ensures read { IfOk result (λ read. ReadsFile (file_of (held_files self.old) file) at into.new read) }
+        ensures full { IfOk result (λ read. read ≡ min (length into.old) (length (file_of (held_files self.old) file) - at)) }
+        ensures held { held_files self.new ≡ held_files self.old }
         ensures lowest { lowest_of self.new ≡ lowered (lowest_of self.old) file at }
+        ensures highest { highest_of self.new ≡ raised (highest_of self.old) file (behind at (length into.old)) }
         ensures faults { RisesOnErr (calls_of self.old).faults (calls_of self.new).faults result }
         ensures call { Counts false (calls_of self.old) (calls_of self.new) result }
     {
-        self.files.ask(file, at);
+        self.files.ask(file, at, into.len());
         self.calls.count(false)?;
         Ok(self.files.read(file, at, into))
     }
@@ -115,14 +121,15 @@ pub struct PureSource {
 }
 
 impl PureSource {
-    ghost use Rattle.cdc_memory.specs.Source.{pure_files_of, pure_lowest_of};
+    ghost use Rattle.cdc_memory.specs.Source.{pure_held_files, pure_lowest_of, pure_highest_of};
 
     /// These files, their bytes shared.
     pub fn new(alloc: Global, files: &[Blob]) -> Result<PureSource, Memory>
         requires few { length files.now < 2 ^ 32 }
         requires fit { sum (map length files.now) ≤ 2 ^ 54 }
-        ensures files { IfOk result (λ source. pure_files_of source ≡ files.now) }
+        ensures files { IfOk result (λ source. pure_held_files source ≡ files.now) }
         ensures lowest { IfOk result (λ source. pure_lowest_of source ≡ None) }
+        ensures highest { IfOk result (λ source. pure_highest_of source ≡ None) }
     {
         Ok(PureSource {
             files: MemFiles::new(alloc, files)?,
@@ -138,15 +145,17 @@ impl PureSource {
 }
 
 impl Source for PureSource {
-    ghost use Rattle.cdc_memory.specs.Source.{pure_files_of, pure_lowest_of};
+    ghost use Rattle.cdc_memory.specs.Source.{pure_held_files, pure_lowest_of, pure_highest_of};
 
     ghost tells = { true };
 
-    ghost held = { pure_files_of };
+    ghost held = { pure_held_files };
 
-    ghost sizes = { λ source. map length (pure_files_of source) };
+    ghost sizes = { λ source. map length (pure_held_files source) };
 
     ghost lowest = { pure_lowest_of };
+
+    ghost highest = { pure_highest_of };
 
     ghost faults = { λ _. 0 };
 
@@ -156,34 +165,37 @@ impl Source for PureSource {
 
     fn files(&mut self) -> Result<u32, Failed>
         ensures ok { IsOk result }
-        ensures number { IfOk result (λ number. number ≡ length (pure_files_of self.old)) }
-        ensures held { pure_files_of self.new ≡ pure_files_of self.old }
+        ensures number { IfOk result (λ number. number ≡ length (pure_held_files self.old)) }
+        ensures held { pure_held_files self.new ≡ pure_held_files self.old }
         ensures lowest { pure_lowest_of self.new ≡ pure_lowest_of self.old }
+        ensures highest { pure_highest_of self.new ≡ pure_highest_of self.old }
     {
         Ok(self.files.number())
     }
 
     fn length(&mut self, file: u32) -> Result<u64, Failed>
         requires first { 1 ≤ file }
-        requires last { file ≤ length (pure_files_of self.old) }
+        requires last { file ≤ length (pure_held_files self.old) }
         ensures ok { IsOk result }
-        ensures exact { IfOk result (λ bytes. bytes ≡ length (file_of (pure_files_of self.old) file)) }
-        ensures held { pure_files_of self.new ≡ pure_files_of self.old }
+        ensures exact { IfOk result (λ bytes. bytes ≡ length (file_of (pure_held_files self.old) file)) }
+        ensures held { pure_held_files self.new ≡ pure_held_files self.old }
         ensures lowest { pure_lowest_of self.new ≡ pure_lowest_of self.old }
+        ensures highest { pure_highest_of self.new ≡ pure_highest_of self.old }
     {
         Ok(self.files.length(file))
     }
 
     fn read_at(&mut self, file: u32, at: u64, into: &mut [u8]) -> Result<usize, Failed>
         requires first { 1 ≤ file }
-        requires last { file ≤ length (pure_files_of self.old) }
+        requires last { file ≤ length (pure_held_files self.old) }
         ensures ok { IsOk result }
-        ensures read { IfOk result (λ read. Reads (file_of (pure_files_of self.old) file) at into.new read) }
-        ensures full { IfOk result (λ read. read ≡ min (length into.old) (length (file_of (pure_files_of self.old) file) - at)) }
-        ensures held { pure_files_of self.new ≡ pure_files_of self.old }
+        ensures read { IfOk result (λ read. ReadsFile (file_of (pure_held_files self.old) file) at into.new read) }
+        ensures full { IfOk result (λ read. read ≡ min (length into.old) (length (file_of (pure_held_files self.old) file) - at)) }
+        ensures held { pure_held_files self.new ≡ pure_held_files self.old }
         ensures lowest { pure_lowest_of self.new ≡ lowered (pure_lowest_of self.old) file at }
+        ensures highest { pure_highest_of self.new ≡ raised (pure_highest_of self.old) file (behind at (length into.old)) }
     {
-        self.files.ask(file, at);
+        self.files.ask(file, at, into.len());
         Ok(self.files.read(file, at, into))
     }
 }

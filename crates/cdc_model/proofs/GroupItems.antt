@@ -11,11 +11,12 @@ use Rattle.cdc_model.specs.declared.fault.GroupFault.{GroupFault}
 use Rattle.cdc_model.specs.declared.fault.GroupFault.TheVariants.{XidDiffers}
 use Rattle.cdc_model.specs.Records.{Row, LogEntry}
 use Rattle.cdc_model.specs.Sign.{Sign, SignedEvent, Gtid, Quiet, Ddl, Marked, CommitTime, BeatTime, RowEvent, NumberEvent, PrepareEvent, BeginText, CommitText, RollbackText, SavepointText, XaStartText, XaEndText, XaCommitText, XaRollbackText, OtherText, is_quiet, is_gtid, is_silent, is_inner, is_unmarked, is_passed, row_of}
-use Rattle.cdc_model.specs.Group.{Says, Content, TableRows, OneStatement, rows_of, IsGroupBody, IsBegunXa, IsEndedXa, IsBegunLocal, IsStamp, IsEntryOf, StandsAt, IsItem, Reads, Stage, Out, Wait, Xa, End, Local, IsTimed, Reaches}
+use Rattle.cdc_model.specs.Group.{Says, Content, TableRows, OneStatement, rows_of, IsGroupBody, IsBegunXa, IsEndedXa, IsBegunLocal, IsStamp, IsEntryOf, StandsAt, IsItem, ReadsItems, Progress, Out, Wait, Xa, End, Local, IsTimed, Reaches}
 use Rattle.cdc_model.specs.Misfit.{unless_same, misfit_phase}
 use Rattle.cdc_model.proofs.OpenBranches.{same_xid_laws}
 use Rattle.cdc_model.proofs.SameXid.{no_test}
-use Rattle.cdc_model.proofs.GroupMachine.{entry_at, prepared, Ending, Reached, outcome}
+use Rattle.cdc_model.specs.Advance.{entry_at, prepared}
+use Rattle.cdc_model.proofs.GroupMachine.{Ending, Reached, outcome}
 use Rattle.cdc_model.proofs.GroupRuns.{Leads, Passes, passes_on, runs_then, ends_entry, all_pass, rows_pass, outcome_append, joined, cons_option_list}
 
 -- ---- signs that lead nowhere
@@ -41,10 +42,10 @@ quiet_leads time xid content seconds _ h = absurd (no_test h)
 
 -- ---- signs that bring a row or none
 
-abbrev xa_rows : Option ℕ → Xid → List Row → Stage
+abbrev xa_rows : Option ℕ → Xid → List Row → Progress
 xa_rows time xid rows = Xa time xid (TableRows rows)
 
-no_row : (at : List Row → Stage) (rows : List Row) → at rows ≡ at (rows ++ [])
+no_row : (at : List Row → Progress) (rows : List Row) → at rows ≡ at (rows ++ [])
 no_row at rows = ap at (sym (append-nil rows))
 
 unmarked_leads : (time : Option ℕ) (xid : Xid) (rows : List Row) (seconds : ℕ) (sign : Sign) → is_unmarked sign ≡ true
@@ -68,9 +69,9 @@ inner_leads rows seconds _ h = absurd (no_test h)
 -- ---- unfinished items
 
 -- what is said of a sign is so of the event that has it
-led_by : (stage next : Stage) (event : SignedEvent) (sign : Sign) (kind : Option EntryKind) → Says event sign
-    → Leads stage event.seconds sign next kind → Leads stage event.seconds event.sign next kind
-led_by stage next event sign kind says led = subst (λ (s : Sign). Leads stage event.seconds s next kind) (sym says) led
+led_by : (progress next : Progress) (event : SignedEvent) (sign : Sign) (kind : Option EntryKind) → Says event sign
+    → Leads progress event.seconds sign next kind → Leads progress event.seconds event.sign next kind
+led_by progress next event sign kind says led = subst (λ (s : Sign). Leads progress event.seconds s next kind) (sym says) led
 
 stamp_passes : (file timestamp : ℕ) (events : List SignedEvent) → IsStamp timestamp events → Passes file Out events (Wait timestamp)
 stamp_passes file timestamp events (stamp, gtids, is, says, all) =
@@ -80,7 +81,7 @@ stamp_passes file timestamp events (stamp, gtids, is, says, all) =
     (all_pass file (Wait timestamp) is_gtid (gtid_leads timestamp) gtids all))
 
 -- where an XA group begins: outside, or behind a commit timestamp
-abbrev before_group : Option ℕ → Stage
+abbrev before_group : Option ℕ → Progress
 before_group None = Out
 before_group (Some timestamp) = Wait timestamp
 
@@ -137,12 +138,12 @@ local_passes file rows events (begin, body, is, says, all, are) =
     (subst (λ (list : List Row). Passes file (Local []) body (Local list)) (sym are) (rows_pass file Local is_inner inner_leads [] body all)))
 
 -- a group behind what may stand before it
-group_passes : (file : ℕ) (time : Option ℕ) (stage : Stage) (events stamp group : List SignedEvent) → events ≡ stamp ++ group → IsTimed time stamp
-    → Passes file (before_group time) group stage → Passes file Out events stage
-group_passes file time stage events stamp group is timed rest =
+group_passes : (file : ℕ) (time : Option ℕ) (progress : Progress) (events stamp group : List SignedEvent) → events ≡ stamp ++ group → IsTimed time stamp
+    → Passes file (before_group time) group progress → Passes file Out events progress
+group_passes file time progress events stamp group is timed rest =
     ap (outcome file Out) is ∙ runs_then file Out (before_group time) stamp group (timed_passes file time stamp timed) ∙ rest
 
-pub reaches_passes : (file : ℕ) (part : List SignedEvent) (stage : Stage) → Reaches part stage → Passes file Out part stage
+pub reaches_passes : (file : ℕ) (part : List SignedEvent) (progress : Progress) → Reaches part progress → Passes file Out part progress
 reaches_passes file part Out is = ap (outcome file Out) is
 reaches_passes file part (Wait timestamp) stamp = stamp_passes file timestamp part stamp
 reaches_passes file part (Xa time xid content) (stamp, group, is, timed, begun) =
@@ -173,9 +174,9 @@ prepare_leads : (time : Option ℕ) (xid : Xid) (content : Content) (one_phase s
     → Leads (End time xid content) seconds (PrepareEvent one_phase xid) Out (Some (prepared time seconds (Prepare xid (rows_of content))))
 prepare_leads time xid content one_phase seconds fits = record { fits = named xid (misfit_phase time one_phase) ∙ fits; to = refl; gives = refl }
 
--- the stage at which the last event of an entry finds what stands before it
+-- the progress at which the last event of an entry finds what stands before it
 data LastOf (file : ℕ) (kind : EntryKind) (front : List SignedEvent) (last : SignedEvent) : Type 0 where
-  last_of : (stage : Stage) → Passes file Out front stage → Leads stage last.seconds last.sign Out (Some kind) → LastOf file kind front last
+  last_of : (progress : Progress) → Passes file Out front progress → Leads progress last.seconds last.sign Out (Some kind) → LastOf file kind front last
 
 entry_last : (file : ℕ) (kind : EntryKind) (front : List SignedEvent) (last : SignedEvent) → IsEntryOf kind front last → LastOf file kind front last
 entry_last file (Beat timestamp) front last (is, says) =
@@ -227,8 +228,8 @@ item_runs file events (Some entry) (front, last, is, makes, stands) =
     ap (outcome file Out) is ∙ ends (entry_last file entry.kind front last makes)
   where
     ends : LastOf file entry.kind front last → outcome file Out (front ++ last ∷ []) ≡ (entry ∷ [], Reached Out)
-    ends (last_of stage passes led) =
-        ends_entry file stage front last (Some entry.kind) passes led
+    ends (last_of progress passes led) =
+        ends_entry file progress front last (Some entry.kind) passes led
         ∙ ap (λ (e : LogEntry). (e ∷ [], Reached Out)) (entry_is file last entry stands)
 
 items_run : (file : ℕ) (items : List (List SignedEvent × Option LogEntry)) → AllByRecursion (IsItem file) items
@@ -242,7 +243,7 @@ items_run file ((events, entry) ∷ items) (first, all) =
     ∙ ap (λ (list : List LogEntry). (list, Reached Out))
     (sym (cons_option_list entry (filter_map (λ (item : List SignedEvent × Option LogEntry). item.1) items)))
 
-pub reads_run : (file : ℕ) (events : List SignedEvent) (entries : List LogEntry) → Reads file events entries
+pub reads_run : (file : ℕ) (events : List SignedEvent) (entries : List LogEntry) → ReadsItems file events entries
     → outcome file Out events ≡ (entries, Reached Out)
 reads_run file events entries reads =
     ap (outcome file Out) reads.events_in_order

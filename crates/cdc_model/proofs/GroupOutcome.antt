@@ -9,70 +9,71 @@ use Rattle.cdc_model.specs.declared.fault.NodeFault.{NodeFault}
 use Rattle.cdc_model.specs.declared.fault.NodeFault.TheVariants.{Group}
 use Rattle.cdc_model.specs.Records.{LogEntry}
 use Rattle.cdc_model.specs.Sign.{SignedEvent}
-use Rattle.cdc_model.specs.Group.{Stage, Out}
+use Rattle.cdc_model.specs.Group.{Progress, Out}
 use Rattle.cdc_model.specs.Misfit.{misfit}
 use Rattle.cdc_model.specs.Entries.{ReadsTo, CeasesToFit, file_fault, AreEntriesOfEvents, EventsHaveEntries}
-use Rattle.cdc_model.proofs.GroupMachine.{advance, given, Ending, Reached, Misplaced, judged, outcome}
+use Rattle.cdc_model.specs.Advance.{advance, entry_given}
+use Rattle.cdc_model.proofs.GroupMachine.{Ending, Reached, Misplaced, judged, outcome}
 use Rattle.cdc_model.proofs.GroupRuns.{outcome_led}
 use Rattle.cdc_model.proofs.GroupReading.{reads_on, reads_nothing, told_misfits}
 
 -- a run that ceases: the events before the one with which it does, and how far they have come
-record Ceased (file : ℕ) (stage : Stage) (events : List SignedEvent) (entries : List LogEntry) (misplaced : SignedEvent) (fault : GroupFault) : Type 0 where
+record Ceased (file : ℕ) (progress : Progress) (events : List SignedEvent) (entries : List LogEntry) (misplaced : SignedEvent) (fault : GroupFault) : Type 0 where
   front : List SignedEvent
   behind : List SignedEvent
-  last : Stage
+  last : Progress
   events_in_order : events ≡ front ++ misplaced ∷ behind
-  passes : outcome file stage front ≡ (entries, Reached last)
+  passes : outcome file progress front ≡ (entries, Reached last)
   told : misfit last misplaced.sign ≡ Some fault
 
 -- the event that a run ceases with, and what is wrong with it
 abbrev misplaced_by : SignedEvent → Ending → SignedEvent
-misplaced_by other (Reached stage) = other
+misplaced_by other (Reached progress) = other
 misplaced_by other (Misplaced event fault) = event
 
 abbrev fault_by : Ending → GroupFault
-fault_by (Reached stage) = OutOfPlace
+fault_by (Reached progress) = OutOfPlace
 fault_by (Misplaced event fault) = fault
 
-ceased_first : (file : ℕ) (stage : Stage) (event : SignedEvent) (events : List SignedEvent) (misplaced : SignedEvent) (fault : GroupFault) (told : Option GroupFault)
-    → misfit stage event.sign ≡ told
-    → ((outcome file (advance stage event.sign) events).1 ≡ Misplaced misplaced fault
-    → Ceased file (advance stage event.sign) events (outcome file (advance stage event.sign) events).0 misplaced fault)
-    → (judged event told (given file stage event) (outcome file (advance stage event.sign) events)).1 ≡ Misplaced misplaced fault
-    → Ceased file stage (event ∷ events) (judged event told (given file stage event) (outcome file (advance stage event.sign) events)).0 misplaced fault
-ceased_first file stage event events misplaced fault None fits later is =
+ceased_first : (file : ℕ) (progress : Progress) (event : SignedEvent) (events : List SignedEvent) (misplaced : SignedEvent) (fault : GroupFault) (told : Option GroupFault)
+    → misfit progress event.sign ≡ told
+    → ((outcome file (advance progress event.sign) events).1 ≡ Misplaced misplaced fault
+    → Ceased file (advance progress event.sign) events (outcome file (advance progress event.sign) events).0 misplaced fault)
+    → (judged event told (entry_given file progress event) (outcome file (advance progress event.sign) events)).1 ≡ Misplaced misplaced fault
+    → Ceased file progress (event ∷ events) (judged event told (entry_given file progress event) (outcome file (advance progress event.sign) events)).0 misplaced fault
+ceased_first file progress event events misplaced fault None fits later is =
     let rest = later is in record {
       front = event ∷ rest.front;
       behind = rest.behind;
       last = rest.last;
       events_in_order = ap (λ (list : List SignedEvent). event ∷ list) rest.events_in_order;
-      passes = outcome_led file stage (advance stage event.sign) event rest.front _ record { fits = fits; to = refl; gives = refl }
-          ∙ ap (λ (o : List LogEntry × Ending). (cons_option (given file stage event) o.0, o.1)) rest.passes;
+      passes = outcome_led file progress (advance progress event.sign) event rest.front _ record { fits = fits; to = refl; gives = refl }
+          ∙ ap (λ (o : List LogEntry × Ending). (cons_option (entry_given file progress event) o.0, o.1)) rest.passes;
       told = rest.told;
     }
-ceased_first file stage event events misplaced fault (Some wrong) told later is = record {
+ceased_first file progress event events misplaced fault (Some wrong) told later is = record {
   front = [];
   behind = events;
-  last = stage;
+  last = progress;
   events_in_order = ap (λ (e : SignedEvent). e ∷ events) (ap (misplaced_by event) is);
   passes = refl;
-  told = ap (λ (e : SignedEvent). misfit stage e.sign) (sym (ap (misplaced_by event) is)) ∙ told ∙ ap (λ (f : GroupFault). Some f) (ap fault_by is);
+  told = ap (λ (e : SignedEvent). misfit progress e.sign) (sym (ap (misplaced_by event) is)) ∙ told ∙ ap (λ (f : GroupFault). Some f) (ap fault_by is);
 }
 
-ceased : (file : ℕ) (stage : Stage) (events : List SignedEvent) (misplaced : SignedEvent) (fault : GroupFault)
-    → (outcome file stage events).1 ≡ Misplaced misplaced fault → Ceased file stage events (outcome file stage events).0 misplaced fault
-ceased file stage [] misplaced fault is = absurd (let e = is in cc)
-ceased file stage (event ∷ events) misplaced fault is =
-    ceased_first file stage event events misplaced fault (misfit stage event.sign) refl (ceased file (advance stage event.sign) events misplaced fault) is
+ceased : (file : ℕ) (progress : Progress) (events : List SignedEvent) (misplaced : SignedEvent) (fault : GroupFault)
+    → (outcome file progress events).1 ≡ Misplaced misplaced fault → Ceased file progress events (outcome file progress events).0 misplaced fault
+ceased file progress [] misplaced fault is = absurd (let e = is in cc)
+ceased file progress (event ∷ events) misplaced fault is =
+    ceased_first file progress event events misplaced fault (misfit progress event.sign) refl (ceased file (advance progress event.sign) events misplaced fault) is
 
 -- the fault of a file by what its run comes to
 abbrev pub fault_of : ℕ → Option (ℕ × FileFault) → Ending → Option (Place × NodeFault)
-fault_of file ended (Reached stage) = file_fault file ended
+fault_of file ended (Reached progress) = file_fault file ended
 fault_of file ended (Misplaced event fault) = Some (record { file = file; at = event.at }, Group fault)
 
 entries_by : (file : ℕ) (events : List SignedEvent) (ended : Option (ℕ × FileFault)) (end : Ending) → (outcome file Out events).1 ≡ end
     → AreEntriesOfEvents file events ended (outcome file Out events).0 (fault_of file ended end)
-entries_by file events ended (Reached stage) is = inl (stage, reads_on file events [] [] Out stage (reads_nothing file) is, refl)
+entries_by file events ended (Reached progress) is = inl (progress, reads_on file events [] [] Out progress (reads_nothing file) is, refl)
 entries_by file events ended (Misplaced misplaced fault) is = inr (misplaced, fault, ceases, refl)
   where
     found : Ceased file Out events (outcome file Out events).0 misplaced fault
@@ -87,7 +88,7 @@ entries_by file events ended (Misplaced misplaced fault) is = inr (misplaced, fa
     ceases = record {
       front = found.front;
       behind = found.behind;
-      stage = found.last;
+      progress = found.last;
       events_in_order = found.events_in_order;
       reads = reads;
       ceases = told_misfits file found.front (outcome file Out events).0 found.last misplaced fault reads found.told;

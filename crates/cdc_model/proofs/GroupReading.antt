@@ -8,47 +8,48 @@ use Rattle.cdc_base.specs.declared.xid.Xid.{Xid}
 use Rattle.cdc_model.specs.declared.fault.GroupFault.{GroupFault}
 use Rattle.cdc_model.specs.Records.{LogEntry}
 use Rattle.cdc_model.specs.Sign.{Sign, SignedEvent, PrepareEvent, CommitText, XaEndText, XaCommitText}
-use Rattle.cdc_model.specs.Group.{Content, IsItem, Reads, Fits, Stage, Out, Wait, Xa, End, Local, Reaches}
+use Rattle.cdc_model.specs.Group.{Content, IsItem, ReadsItems, Fits, Progress, Out, Wait, Xa, End, Local, Reaches}
 use Rattle.cdc_model.specs.Misfit.{misfit}
-use Rattle.cdc_model.specs.Entries.{ReadsTo, OneReading, OneStage, FittingIsRead, FrontsFit, MisfitsAreTold}
-use Rattle.cdc_model.proofs.GroupMachine.{advance, given, Ending, Reached, Misplaced, judged, outcome}
+use Rattle.cdc_model.specs.Entries.{ReadsTo, EventsHaveOneReading, OneProgress, FittingIsRead, FrontsFit, MisfitsAreTold}
+use Rattle.cdc_model.specs.Advance.{advance, entry_given}
+use Rattle.cdc_model.proofs.GroupMachine.{Ending, Reached, Misplaced, judged, outcome}
 use Rattle.cdc_model.proofs.GroupRuns.{joined, outcome_append, outcome_led, cons_option_list}
 use Rattle.cdc_model.proofs.GroupItems.{reads_run, reaches_passes, end_leads, named}
 use Rattle.cdc_model.proofs.GroupSteps.{Goes, one_more}
 
 -- ---- what is read is what a run comes to
 
-pub reads_to_run : (file : ℕ) (events : List SignedEvent) (entries : List LogEntry) (stage : Stage) → ReadsTo file events entries stage
-    → outcome file Out events ≡ (entries, Reached stage)
-reads_to_run file events entries stage reads =
+pub reads_to_run : (file : ℕ) (events : List SignedEvent) (entries : List LogEntry) (progress : Progress) → ReadsTo file events entries progress
+    → outcome file Out events ≡ (entries, Reached progress)
+reads_to_run file events entries progress reads =
     ap (outcome file Out) reads.events_in_order
     ∙ outcome_append file Out reads.whole reads.part
     ∙ ap (λ (o : List LogEntry × Ending). joined file o reads.part) (reads_run file reads.whole entries reads.reads)
-    ∙ ap (λ (o : List LogEntry × Ending). (entries ++ o.0, o.1)) (reaches_passes file reads.part stage reads.reaches)
-    ∙ ap (λ (list : List LogEntry). (list, Reached stage)) (append-nil entries)
+    ∙ ap (λ (o : List LogEntry × Ending). (entries ++ o.0, o.1)) (reaches_passes file reads.part progress reads.reaches)
+    ∙ ap (λ (list : List LogEntry). (list, Reached progress)) (append-nil entries)
 
--- the stage that a run has reached
-abbrev reached_by : Ending → Stage
-reached_by (Reached stage) = stage
+-- the progress that a run has reached
+abbrev reached_by : Ending → Progress
+reached_by (Reached progress) = progress
 reached_by (Misplaced event fault) = Out
 
 -- a run has one end
-one_outcome : (o : List LogEntry × Ending) (entries others : List LogEntry) (stage other : Stage)
-    → o ≡ (entries, Reached stage) → o ≡ (others, Reached other) → (entries ≡ others) × (stage ≡ other)
-one_outcome o entries others stage other first second =
-    let same : (entries, Reached stage) ≡ (others, Reached other) = sym first ∙ second in
+one_outcome : (o : List LogEntry × Ending) (entries others : List LogEntry) (progress other : Progress)
+    → o ≡ (entries, Reached progress) → o ≡ (others, Reached other) → (entries ≡ others) × (progress ≡ other)
+one_outcome o entries others progress other first second =
+    let same : (entries, Reached progress) ≡ (others, Reached other) = sym first ∙ second in
     (ap (λ (p : List LogEntry × Ending). p.0) same, ap (λ (p : List LogEntry × Ending). reached_by p.1) same)
 
-pub one_reading : OneReading
+pub one_reading : EventsHaveOneReading
 one_reading file events entries others first second =
     (one_outcome (outcome file Out events) entries others Out Out (reads_run file events entries first) (reads_run file events others second)).0
 
-pub one_stage : OneStage
-one_stage file events entries others stage other first second =
-    one_outcome (outcome file Out events) entries others stage other
-    (reads_to_run file events entries stage first) (reads_to_run file events others other second)
+pub one_progress : OneProgress
+one_progress file events entries others progress other first second =
+    one_outcome (outcome file Out events) entries others progress other
+    (reads_to_run file events entries progress first) (reads_to_run file events others other second)
 
--- ---- a run that ends at a stage has read its events
+-- ---- a run that ends at a progress has read its events
 
 all_items_more : (file : ℕ) (items : List (List SignedEvent × Option LogEntry)) (item : List SignedEvent × Option LogEntry)
     → AllByRecursion (IsItem file) items → IsItem file item → AllByRecursion (IsItem file) (items ++ item ∷ [])
@@ -56,7 +57,7 @@ all_items_more file [] item all last = (last, tt)
 all_items_more file (first ∷ items) item (here, all) last = (here, all_items_more file items item all last)
 
 reads_more : (file : ℕ) (events more : List SignedEvent) (entries : List LogEntry) (entry : Option LogEntry)
-    → Reads file events entries → IsItem file (more, entry) → Reads file (events ++ more) (entries ++ option_to_list entry)
+    → ReadsItems file events entries → IsItem file (more, entry) → ReadsItems file (events ++ more) (entries ++ option_to_list entry)
 reads_more file events more entries entry reads item = record {
   items = reads.items ++ (more, entry) ∷ [];
   each = all_items_more file reads.items (more, entry) reads.each item;
@@ -69,18 +70,18 @@ reads_more file events more entries entry reads item = record {
       ∙ sym (filter_map-append (λ (i : List SignedEvent × Option LogEntry). i.1) reads.items ((more, entry) ∷ []));
 }
 
-reads_one_more : (file : ℕ) (front : List SignedEvent) (entries : List LogEntry) (stage next : Stage) (event : SignedEvent) (entry : Option LogEntry)
-    → (reads : ReadsTo file front entries stage) → Goes file reads.part event next entry
+reads_one_more : (file : ℕ) (front : List SignedEvent) (entries : List LogEntry) (progress next : Progress) (event : SignedEvent) (entry : Option LogEntry)
+    → (reads : ReadsTo file front entries progress) → Goes file reads.part event next entry
     → ReadsTo file (front ++ event ∷ []) (entries ++ option_to_list entry) next
-reads_one_more file front entries stage next event entry reads (inl (reaches, none)) = record {
+reads_one_more file front entries progress next event entry reads (inl (reaches, none)) = record {
   whole = reads.whole;
   part = reads.part ++ event ∷ [];
   events_in_order = ap (λ (list : List SignedEvent). list ++ event ∷ []) reads.events_in_order ∙ append_assoc reads.whole reads.part (event ∷ []);
-  reads = subst (Reads file reads.whole)
+  reads = subst (ReadsItems file reads.whole)
       (sym (ap (λ (e : Option LogEntry). entries ++ option_to_list e) none ∙ append-nil entries)) reads.reads;
   reaches = reaches;
 }
-reads_one_more file front entries stage next event entry reads (inr (out, item)) = record {
+reads_one_more file front entries progress next event entry reads (inr (out, item)) = record {
   whole = reads.whole ++ (reads.part ++ event ∷ []);
   part = [];
   events_in_order = ap (λ (list : List SignedEvent). list ++ event ∷ []) reads.events_in_order
@@ -90,34 +91,34 @@ reads_one_more file front entries stage next event entry reads (inr (out, item))
 }
 
 -- one event more that fits
-pub reads_next : (file : ℕ) (front : List SignedEvent) (entries : List LogEntry) (stage : Stage) (event : SignedEvent)
-    → ReadsTo file front entries stage → misfit stage event.sign ≡ None
-    → ReadsTo file (front ++ event ∷ []) (entries ++ option_to_list (given file stage event)) (advance stage event.sign)
-reads_next file front entries stage event reads fits =
-    reads_one_more file front entries stage (advance stage event.sign) event (given file stage event) reads
-    (one_more file stage reads.part event reads.reaches fits)
+pub reads_next : (file : ℕ) (front : List SignedEvent) (entries : List LogEntry) (progress : Progress) (event : SignedEvent)
+    → ReadsTo file front entries progress → misfit progress event.sign ≡ None
+    → ReadsTo file (front ++ event ∷ []) (entries ++ option_to_list (entry_given file progress event)) (advance progress event.sign)
+reads_next file front entries progress event reads fits =
+    reads_one_more file front entries progress (advance progress event.sign) event (entry_given file progress event) reads
+    (one_more file progress reads.part event reads.reaches fits)
 
--- a first event that fits, and the rest of a run that ends at a stage
-run_first : (event : SignedEvent) (fault : Option GroupFault) (entry : Option LogEntry) (later : List LogEntry × Ending) (last : Stage)
+-- a first event that fits, and the rest of a run that ends at a progress
+run_first : (event : SignedEvent) (fault : Option GroupFault) (entry : Option LogEntry) (later : List LogEntry × Ending) (last : Progress)
     → (judged event fault entry later).1 ≡ Reached last
     → (fault ≡ None) × (later.1 ≡ Reached last) × ((judged event fault entry later).0 ≡ option_to_list entry ++ later.0)
 run_first event None entry later last is = (refl, is, cons_option_list entry later.0)
 run_first event (Some fault) entry later last is = absurd (let e = is in cc)
 
-pub reads_on : (file : ℕ) (events front : List SignedEvent) (entries : List LogEntry) (stage last : Stage)
-    → ReadsTo file front entries stage → (outcome file stage events).1 ≡ Reached last
-    → ReadsTo file (front ++ events) (entries ++ (outcome file stage events).0) last
-reads_on file [] front entries stage last reads is =
+pub reads_on : (file : ℕ) (events front : List SignedEvent) (entries : List LogEntry) (progress last : Progress)
+    → ReadsTo file front entries progress → (outcome file progress events).1 ≡ Reached last
+    → ReadsTo file (front ++ events) (entries ++ (outcome file progress events).0) last
+reads_on file [] front entries progress last reads is =
     subst (λ (list : List SignedEvent). ReadsTo file list (entries ++ []) last) (sym (append-nil front))
     (subst (λ (list : List LogEntry). ReadsTo file front list last) (sym (append-nil entries))
     (subst (ReadsTo file front entries) (ap reached_by is) reads))
-reads_on file (event ∷ events) front entries stage last reads is =
-    let next = advance stage event.sign in
-    let entry = given file stage event in
-    let first = run_first event (misfit stage event.sign) entry (outcome file next events) last is in
+reads_on file (event ∷ events) front entries progress last reads is =
+    let next = advance progress event.sign in
+    let entry = entry_given file progress event in
+    let first = run_first event (misfit progress event.sign) entry (outcome file next events) last is in
     let more : ReadsTo file ((front ++ event ∷ []) ++ events) ((entries ++ option_to_list entry) ++ (outcome file next events).0) last =
-    reads_on file events (front ++ event ∷ []) (entries ++ option_to_list entry) next last (reads_next file front entries stage event reads first.0) first.1 in
-    subst (λ (list : List SignedEvent). ReadsTo file list (entries ++ (outcome file stage (event ∷ events)).0) last) (append_assoc front (event ∷ []) events)
+    reads_on file events (front ++ event ∷ []) (entries ++ option_to_list entry) next last (reads_next file front entries progress event reads first.0) first.1 in
+    subst (λ (list : List SignedEvent). ReadsTo file list (entries ++ (outcome file progress (event ∷ events)).0) last) (append_assoc front (event ∷ []) events)
     (subst (λ (list : List LogEntry). ReadsTo file ((front ++ event ∷ []) ++ events) list last)
     (append_assoc entries (option_to_list entry) (outcome file next events).0 ∙ ap (λ (list : List LogEntry). entries ++ list) (sym first.2)) more)
 
@@ -130,13 +131,13 @@ reads_nothing file = record {
   reaches = refl;
 }
 
--- ---- events fit where a run over them ends at a stage
+-- ---- events fit where a run over them ends at a progress
 
 -- events that end an unfinished item
 abbrev event_of : Sign → SignedEvent
 event_of sign = record { at = 0; end = 0; checksum = 0; seconds = 0; sign = sign }
 
-abbrev ending : Stage → List SignedEvent
+abbrev ending : Progress → List SignedEvent
 ending Out = []
 ending (Wait timestamp) = event_of (XaCommitText record { gtrid = []; bqual = []; format = 0 }) ∷ []
 ending (Xa None xid content) = event_of (XaEndText xid) ∷ event_of (PrepareEvent 0 xid) ∷ []
@@ -148,7 +149,7 @@ ending (Local rows) = event_of CommitText ∷ []
 prepare_ends : (file : ℕ) (time : Option ℕ) (xid : Xid) (content : Content) (one_phase : ℕ) → misfit (End time xid content) (PrepareEvent one_phase xid) ≡ None
     → (outcome file (End time xid content) (event_of (PrepareEvent one_phase xid) ∷ [])).1 ≡ Reached Out
 prepare_ends file time xid content one_phase fits =
-    ap (λ (f : Option GroupFault). (judged (event_of (PrepareEvent one_phase xid)) f (given file (End time xid content) (event_of (PrepareEvent one_phase xid))) ([], Reached Out)).1) fits
+    ap (λ (f : Option GroupFault). (judged (event_of (PrepareEvent one_phase xid)) f (entry_given file (End time xid content) (event_of (PrepareEvent one_phase xid))) ([], Reached Out)).1) fits
 
 group_ends : (file : ℕ) (time : Option ℕ) (xid : Xid) (content : Content) (last : SignedEvent)
     → (outcome file (End time xid content) (last ∷ [])).1 ≡ Reached Out → (outcome file (Xa time xid content) (event_of (XaEndText xid) ∷ last ∷ [])).1 ≡ Reached Out
@@ -157,7 +158,7 @@ group_ends file time xid content last is =
     (outcome_led file (Xa time xid content) (End time xid content) (event_of (XaEndText xid)) (last ∷ []) None (end_leads time xid content 0))
     ∙ is
 
-ends : (file : ℕ) (stage : Stage) → (outcome file stage (ending stage)).1 ≡ Reached Out
+ends : (file : ℕ) (progress : Progress) → (outcome file progress (ending progress)).1 ≡ Reached Out
 ends file Out = refl
 ends file (Wait timestamp) = refl
 ends file (Xa None xid content) = group_ends file None xid content (event_of (PrepareEvent 0 xid)) (prepare_ends file None xid content 0 (named xid None))
@@ -167,24 +168,24 @@ ends file (End None xid content) = prepare_ends file None xid content 0 (named x
 ends file (End (Some timestamp) xid content) = prepare_ends file (Some timestamp) xid content 1 (named xid None)
 ends file (Local rows) = refl
 
-read_fits : (file : ℕ) (events : List SignedEvent) (entries : List LogEntry) (stage : Stage) → ReadsTo file events entries stage → Fits file events
-read_fits file events entries stage reads = whole (reads_on file (ending stage) events entries stage Out reads (ends file stage))
+read_fits : (file : ℕ) (events : List SignedEvent) (entries : List LogEntry) (progress : Progress) → ReadsTo file events entries progress → Fits file events
+read_fits file events entries progress reads = whole (reads_on file (ending progress) events entries progress Out reads (ends file progress))
   where
-    whole : ReadsTo file (events ++ ending stage) (entries ++ (outcome file stage (ending stage)).0) Out → Fits file events
+    whole : ReadsTo file (events ++ ending progress) (entries ++ (outcome file progress (ending progress)).0) Out → Fits file events
     whole all = record {
-      more = ending stage;
-      entries = entries ++ (outcome file stage (ending stage)).0;
-      reads = subst (λ (list : List SignedEvent). Reads file list (entries ++ (outcome file stage (ending stage)).0))
+      more = ending progress;
+      entries = entries ++ (outcome file progress (ending progress)).0;
+      reads = subst (λ (list : List SignedEvent). ReadsItems file list (entries ++ (outcome file progress (ending progress)).0))
           (sym (all.events_in_order ∙ ap (λ (list : List SignedEvent). all.whole ++ list) all.reaches ∙ append-nil all.whole)) all.reads;
     }
 
--- the front of a run that ends at a stage ends at one
-front_reached : (file : ℕ) (o : List LogEntry × Ending) (more : List SignedEvent) (last : Stage) → (joined file o more).1 ≡ Reached last
-    → (stage : Stage) × (o.1 ≡ Reached stage)
-front_reached file (entries, Reached stage) more last is = (stage, refl)
+-- the front of a run that ends at a progress ends at one
+front_reached : (file : ℕ) (o : List LogEntry × Ending) (more : List SignedEvent) (last : Progress) → (joined file o more).1 ≡ Reached last
+    → (progress : Progress) × (o.1 ≡ Reached progress)
+front_reached file (entries, Reached progress) more last is = (progress, refl)
 front_reached file (entries, Misplaced event fault) more last is = absurd (let e = is in cc)
 
-fitting_read : (file : ℕ) (events : List SignedEvent) → Fits file events → (entries : List LogEntry) × (stage : Stage) × ReadsTo file events entries stage
+fitting_read : (file : ℕ) (events : List SignedEvent) → Fits file events → (entries : List LogEntry) × (progress : Progress) × ReadsTo file events entries progress
 fitting_read file events fits =
     let run = reads_run file (events ++ fits.more) fits.entries fits.reads in
     let front = front_reached file (outcome file Out events) fits.more Out
@@ -198,7 +199,7 @@ front_fits : (file : ℕ) (front more : List SignedEvent) → Fits file (front +
 front_fits file front more fits = record {
   more = more ++ fits.more;
   entries = fits.entries;
-  reads = subst (λ (list : List SignedEvent). Reads file list fits.entries) (append_assoc front more fits.more) fits.reads;
+  reads = subst (λ (list : List SignedEvent). ReadsItems file list fits.entries) (append_assoc front more fits.more) fits.reads;
 }
 
 pub fronts_fit : FrontsFit
@@ -207,35 +208,35 @@ fronts_fit file front more = (front_fits file front more, λ never fits. never (
 -- ---- where the table has a fault, the events fit no more
 
 -- a run over what is read, and then an event that doesn't fit
-pub run_ceases : (file : ℕ) (front behind : List SignedEvent) (entries : List LogEntry) (stage : Stage) (misplaced : SignedEvent) (fault : GroupFault)
-    → ReadsTo file front entries stage → misfit stage misplaced.sign ≡ Some fault
+pub run_ceases : (file : ℕ) (front behind : List SignedEvent) (entries : List LogEntry) (progress : Progress) (misplaced : SignedEvent) (fault : GroupFault)
+    → ReadsTo file front entries progress → misfit progress misplaced.sign ≡ Some fault
     → outcome file Out (front ++ misplaced ∷ behind) ≡ (entries, Misplaced misplaced fault)
-run_ceases file front behind entries stage misplaced fault reads told =
+run_ceases file front behind entries progress misplaced fault reads told =
     outcome_append file Out front (misplaced ∷ behind)
-    ∙ ap (λ (o : List LogEntry × Ending). joined file o (misplaced ∷ behind)) (reads_to_run file front entries stage reads)
+    ∙ ap (λ (o : List LogEntry × Ending). joined file o (misplaced ∷ behind)) (reads_to_run file front entries progress reads)
     ∙ ap (λ (f : Option GroupFault). (
-      entries ++ (judged misplaced f (given file stage misplaced) (outcome file (advance stage misplaced.sign) behind)).0,
-      (judged misplaced f (given file stage misplaced) (outcome file (advance stage misplaced.sign) behind)).1,
+      entries ++ (judged misplaced f (entry_given file progress misplaced) (outcome file (advance progress misplaced.sign) behind)).0,
+      (judged misplaced f (entry_given file progress misplaced) (outcome file (advance progress misplaced.sign) behind)).1,
     )) told
     ∙ ap (λ (list : List LogEntry). (list, Misplaced misplaced fault)) (append-nil entries)
 
--- no run both ends at a stage and ceases
-never_both : (o : List LogEntry × Ending) (entries others : List LogEntry) (stage : Stage) (event : SignedEvent) (fault : GroupFault)
-    → o ≡ (entries, Reached stage) → o ≡ (others, Misplaced event fault) → ⊥
-never_both o entries others stage event fault first second =
-    let same : Reached stage ≡ Misplaced event fault = ap (λ (p : List LogEntry × Ending). p.1) (sym first ∙ second) in cc
+-- no run both ends at a progress and ceases
+never_both : (o : List LogEntry × Ending) (entries others : List LogEntry) (progress : Progress) (event : SignedEvent) (fault : GroupFault)
+    → o ≡ (entries, Reached progress) → o ≡ (others, Misplaced event fault) → ⊥
+never_both o entries others progress event fault first second =
+    let same : Reached progress ≡ Misplaced event fault = ap (λ (p : List LogEntry × Ending). p.1) (sym first ∙ second) in cc
 
-pub told_misfits : (file : ℕ) (events : List SignedEvent) (entries : List LogEntry) (stage : Stage) (next : SignedEvent) (fault : GroupFault)
-    → ReadsTo file events entries stage → misfit stage next.sign ≡ Some fault → Fits file (events ++ next ∷ []) → ⊥
-told_misfits file events entries stage next fault reads told fits =
+pub told_misfits : (file : ℕ) (events : List SignedEvent) (entries : List LogEntry) (progress : Progress) (next : SignedEvent) (fault : GroupFault)
+    → ReadsTo file events entries progress → misfit progress next.sign ≡ Some fault → Fits file (events ++ next ∷ []) → ⊥
+told_misfits file events entries progress next fault reads told fits =
     let read = fitting_read file (events ++ next ∷ []) fits in
     never_both (outcome file Out (events ++ next ∷ [])) read.0 entries read.1 next fault
     (reads_to_run file (events ++ next ∷ []) read.0 read.1 read.2)
-    (run_ceases file events [] entries stage next fault reads told)
+    (run_ceases file events [] entries progress next fault reads told)
 
 pub misfits_are_told : MisfitsAreTold
-misfits_are_told file events entries stage next reads = (
-  λ fits. read_fits file (events ++ next ∷ []) (entries ++ option_to_list (given file stage next)) (advance stage next.sign)
-      (reads_next file events entries stage next reads fits),
-  λ fault told fits. told_misfits file events entries stage next fault reads told fits,
+misfits_are_told file events entries progress next reads = (
+  λ fits. read_fits file (events ++ next ∷ []) (entries ++ option_to_list (entry_given file progress next)) (advance progress next.sign)
+      (reads_next file events entries progress next reads fits),
+  λ fault told fits. told_misfits file events entries progress next fault reads told fits,
 )

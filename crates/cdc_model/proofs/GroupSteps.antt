@@ -8,12 +8,12 @@ use Rattle.cdc_base.specs.declared.xid.Xid.{Xid}
 use Rattle.cdc_model.specs.declared.fault.GroupFault.{GroupFault}
 use Rattle.cdc_model.specs.declared.fault.GroupFault.TheVariants.{XidDiffers, NoTimestamp}
 use Rattle.cdc_model.specs.Records.{Row, LogEntry}
-use Rattle.cdc_model.specs.Start.{same_xid}
+use Rattle.cdc_base.specs.Xid.{same_xid}
 use Rattle.cdc_model.specs.Sign.{Sign, SignedEvent, Gtid, Quiet, Ddl, Marked, CommitTime, BeatTime, RowEvent, NumberEvent, PrepareEvent, BeginText, CommitText, RollbackText, SavepointText, XaStartText, XaEndText, XaCommitText, XaRollbackText, OtherText, is_quiet, is_gtid, is_silent, is_inner, is_unmarked, is_passed, row_of}
-use Rattle.cdc_model.specs.Group.{Says, rows_in, Content, TableRows, OneStatement, IsGroupBody, IsEndedXa, IsBegunLocal, IsStamp, IsNoEntry, IsItem, Stage, Out, Wait, Xa, End, Local, Reaches}
+use Rattle.cdc_model.specs.Group.{Says, rows_in, Content, TableRows, OneStatement, IsGroupBody, IsEndedXa, IsBegunLocal, IsStamp, IsNoEntry, IsItem, Progress, Out, Wait, Xa, End, Local, Reaches}
 use Rattle.cdc_model.specs.Misfit.{misfit, misfit_phase, unless_same}
 use Rattle.cdc_model.proofs.SameXid.{no_test, same_xid_is, xid_of}
-use Rattle.cdc_model.proofs.GroupMachine.{advance, made, entry_at, given, with_row}
+use Rattle.cdc_model.specs.Advance.{advance, made, entry_at, entry_given, with_row}
 
 -- ---- one element more
 
@@ -56,12 +56,12 @@ part_more events before after event is = ap (λ (list : List SignedEvent). list 
 -- ---- what one event more comes to
 
 -- the unfinished item and an event: unfinished still, and no entry; or an item
-abbrev pub Goes : ℕ → List SignedEvent → SignedEvent → Stage → Option LogEntry → Type 0
+abbrev pub Goes : ℕ → List SignedEvent → SignedEvent → Progress → Option LogEntry → Type 0
 Goes file part event next entry = (Reaches (part ++ event ∷ []) next × (entry ≡ None)) ⊎ ((next ≡ Out) × IsItem file (part ++ event ∷ [], entry))
 
 -- where the event has this sign
-abbrev GoesBy : ℕ → List SignedEvent → SignedEvent → Stage → Sign → Type 0
-GoesBy file part event stage sign = Goes file part event (advance stage sign) (option_map (entry_at file event) (made stage event.seconds sign))
+abbrev GoesBy : ℕ → List SignedEvent → SignedEvent → Progress → Sign → Type 0
+GoesBy file part event progress sign = Goes file part event (advance progress sign) (option_map (entry_at file event) (made progress event.seconds sign))
 
 passed_over : (file : ℕ) (event : SignedEvent) (sign : Sign) → Says event sign → is_passed sign ≡ true → IsNoEntry (event ∷ [])
 passed_over file event sign says h = inl (event, refl, test_of is_passed event sign says h)
@@ -254,8 +254,8 @@ local_goes file rows part event RollbackText begun says h = inr (refl, inr (part
 local_goes file rows part event _ begun says h = absurd (let e = h in cc)
 
 -- an event that fits behind an unfinished item goes on with it, or ends it
-pub one_more : (file : ℕ) (stage : Stage) (part : List SignedEvent) (event : SignedEvent) → Reaches part stage → misfit stage event.sign ≡ None
-    → Goes file part event (advance stage event.sign) (given file stage event)
+pub one_more : (file : ℕ) (progress : Progress) (part : List SignedEvent) (event : SignedEvent) → Reaches part progress → misfit progress event.sign ≡ None
+    → Goes file part event (advance progress event.sign) (entry_given file progress event)
 one_more file Out part event none h =
     subst (λ (list : List SignedEvent). GoesBy file list event Out event.sign) (sym none) (outside_goes file event event.sign refl h)
 one_more file (Wait timestamp) part event stamp h = waiting_goes file timestamp part event event.sign stamp refl h

@@ -8,7 +8,7 @@ use Rattle.std.specs.declared.cmp.Ordering.TheVariants.{Less, Equal, Greater}
 use Rattle.cdc_base.specs.declared.key.Key.{Key}
 use Rattle.cdc_base.specs.Key.{key_order}
 use Rattle.cdc_base.proofs.KeyOrder.{key_order_total, same_key}
-use Rattle.cdc_model.specs.Transaction.{placed, put}
+use Rattle.cdc_model.specs.Transaction.{placed_key, put}
 use Rattle.cdc_model.proofs.Members.{contains_first, contains_later, contains_none, contains_cases}
 
 -- a key is below each of some keys
@@ -41,7 +41,7 @@ below_member key (first ∷ keys) other (below, all) within =
 -- ---- the order is kept
 
 below_placed : (order : Ordering) (low key first : Key) (rest later : List Key) → key_order low key ≡ Less → IsBelowAll low (first ∷ rest)
-    → IsBelowAll low later → IsBelowAll low (placed order key first rest later)
+    → IsBelowAll low later → IsBelowAll low (placed_key order key first rest later)
 below_placed Less low key first rest later is (below, all) behind = (is, (below, all))
 below_placed Equal low key first rest later is (below, all) behind = (below, all)
 below_placed Greater low key first rest later is (below, all) behind = (below, behind)
@@ -52,7 +52,7 @@ below_put low key (first ∷ rest) is (below, all) =
     below_placed (key_order key first) low key first rest (put key rest) is (below, all) (below_put low key rest is all)
 
 sorted_placed : (order : Ordering) (key first : Key) (rest : List Key) → key_order key first ≡ order → IsBelowAll first rest
-    → IsStrictlySortedBy key_order rest → IsStrictlySortedBy key_order (put key rest) → IsStrictlySortedBy key_order (placed order key first rest (put key rest))
+    → IsStrictlySortedBy key_order rest → IsStrictlySortedBy key_order (put key rest) → IsStrictlySortedBy key_order (placed_key order key first rest (put key rest))
 unfolding IsStrictlySortedBy
 sorted_placed Less key first rest is all sorted later = ((is, below_later key first rest is all), (all, sorted))
 sorted_placed Equal key first rest is all sorted later = (all, sorted)
@@ -68,7 +68,7 @@ sorted_put key (first ∷ rest) (all, sorted) =
 
 in_placed : (order : Ordering) (key first : Key) (rest later : List Key) (other : Key)
     → (Contains later other → (key ≡ other) ⊎ Contains rest other)
-    → Contains (placed order key first rest later) other → (key ≡ other) ⊎ Contains (first ∷ rest) other
+    → Contains (placed_key order key first rest later) other → (key ≡ other) ⊎ Contains (first ∷ rest) other
 in_placed Less key first rest later other behind within = contains_cases key (first ∷ rest) other within
 in_placed Equal key first rest later other behind within = inr within
 in_placed Greater key first rest later other behind within =
@@ -84,7 +84,7 @@ in_put key (first ∷ rest) other within =
     in_placed (key_order key first) key first rest (put key rest) other (in_put key rest other) within
 
 placed_itself : (order : Ordering) (key first : Key) (rest later : List Key) → key_order key first ≡ order
-    → Contains later key → Contains (placed order key first rest later) key
+    → Contains later key → Contains (placed_key order key first rest later) key
 placed_itself Less key first rest later is behind = contains_first key (first ∷ rest)
 placed_itself Equal key first rest later is behind =
     subst (λ k. Contains (first ∷ rest) k) (sym (same_key key first is)) (contains_first first rest)
@@ -95,7 +95,7 @@ put_itself key [] = contains_first key []
 put_itself key (first ∷ rest) = placed_itself (key_order key first) key first rest (put key rest) refl (put_itself key rest)
 
 placed_other : (order : Ordering) (key first : Key) (rest later : List Key) (other : Key) → (Contains rest other → Contains later other)
-    → Contains (first ∷ rest) other → Contains (placed order key first rest later) other
+    → Contains (first ∷ rest) other → Contains (placed_key order key first rest later) other
 placed_other Less key first rest later other behind within = contains_later key (first ∷ rest) other within
 placed_other Equal key first rest later other behind within = within
 placed_other Greater key first rest later other behind within =

@@ -5,15 +5,14 @@ use Rattle.std.proofs.Common.{◌≡◌, ◌≢◌, ◌<◌, inl, inr, ℕ, ◌+
 use Rattle.std.proofs.lemmas.List.{map-append}
 use Rattle.cdc_base.specs.declared.place.Place.{Place}
 use Rattle.cdc_event.specs.declared.fault.FileFault.{FileFault}
-use Rattle.cdc_event.specs.File.{PlacedEvent, EachIsRead, GrownFileContinues}
-use Rattle.cdc_event.specs.File.{OneReading as OneFileReading}
+use Rattle.cdc_event.specs.File.{PlacedEvent, EachIsRead, FilesHaveOneReading, GrownFileContinues}
 use Rattle.cdc_model.specs.declared.fault.NodeFault.{NodeFault}
 use Rattle.cdc_model.specs.declared.fault.NodeFault.TheVariants.{Group}
 use Rattle.cdc_model.specs.Records.{LogEntry}
 use Rattle.cdc_model.specs.Log.{IsLogPrefix}
 use Rattle.cdc_model.specs.Sign.{SignedEvent, signed}
 use Rattle.cdc_model.specs.Group.{Out}
-use Rattle.cdc_model.specs.Entries.{file_fault, AreEntriesOfEvents, AreFileEntries, AreEntriesFrom, EachLogHasEntries, OneEntryList, Lengthens, ContinuedLogKeepsEntries}
+use Rattle.cdc_model.specs.Entries.{file_fault, AreEntriesOfEvents, AreFileEntries, AreEntriesFrom, EachLogHasEntries, OneEntryList, LengthensLog, ContinuedLogKeepsEntries}
 use Rattle.cdc_model.proofs.GroupMachine.{Ending, Reached, Misplaced, outcome}
 use Rattle.cdc_model.proofs.GroupRuns.{joined, outcome_append}
 use Rattle.cdc_model.proofs.GroupReading.{reads_to_run, run_ceases}
@@ -22,33 +21,33 @@ use Rattle.cdc_model.proofs.GroupOutcome.{events_have_entries}
 -- ---- the entries of events are what a run gives
 
 -- entries, and a fault or none
-abbrev Listed : Type 0
+abbrev pub Listed : Type 0
 Listed = List LogEntry × Option (Place × NodeFault)
 
-abbrev listed : List LogEntry → Option (Place × NodeFault) → Listed
+abbrev pub listed : List LogEntry → Option (Place × NodeFault) → Listed
 listed entries fault = (entries, fault)
 
 -- what a run comes to, as entries and a fault
-abbrev closed : ℕ → Option (ℕ × FileFault) → List LogEntry × Ending → Listed
-closed file ended (entries, Reached stage) = (entries, file_fault file ended)
+abbrev pub closed : ℕ → Option (ℕ × FileFault) → List LogEntry × Ending → Listed
+closed file ended (entries, Reached progress) = (entries, file_fault file ended)
 closed file ended (entries, Misplaced event fault) = (entries, Some (record { file = file; at = event.at }, Group fault))
 
-run_of_entries : (file : ℕ) (events : List SignedEvent) (ended : Option (ℕ × FileFault)) (entries : List LogEntry) (fault : Option (Place × NodeFault))
+pub run_of_entries : (file : ℕ) (events : List SignedEvent) (ended : Option (ℕ × FileFault)) (entries : List LogEntry) (fault : Option (Place × NodeFault))
     → AreEntriesOfEvents file events ended entries fault → listed entries fault ≡ closed file ended (outcome file Out events)
-run_of_entries file events ended entries fault (inl (stage, reads, is)) =
+run_of_entries file events ended entries fault (inl (progress, reads, is)) =
     ap (listed entries) is
-    ∙ ap (closed file ended) (sym (reads_to_run file events entries stage reads))
+    ∙ ap (closed file ended) (sym (reads_to_run file events entries progress reads))
 run_of_entries file events ended entries fault (inr (misplaced, wrong, ceases, is)) =
     ap (listed entries) is
     ∙ ap (closed file ended) (sym (ap (outcome file Out) ceases.events_in_order
-    ∙ run_ceases file ceases.front ceases.behind entries ceases.stage misplaced wrong ceases.reads ceases.kind))
+    ∙ run_ceases file ceases.front ceases.behind entries ceases.progress misplaced wrong ceases.reads ceases.kind))
 
 -- ---- one file
 
-same_entries : (entries others : List LogEntry) (fault other : Option (Place × NodeFault)) → listed entries fault ≡ listed others other → (entries ≡ others) × (fault ≡ other)
+pub same_entries : (entries others : List LogEntry) (fault other : Option (Place × NodeFault)) → listed entries fault ≡ listed others other → (entries ≡ others) × (fault ≡ other)
 same_entries entries others fault other same = (ap (λ (p : Listed). p.0) same, ap (λ (p : Listed). p.1) same)
 
-module _ (one : OneFileReading) where
+module _ (one : FilesHaveOneReading) where
   one_file : (file : ℕ) (bytes : List ℕ) (entries others : List LogEntry) (fault other : Option (Place × NodeFault))
       → AreFileEntries file bytes entries fault → AreFileEntries file bytes others other → (entries ≡ others) × (fault ≡ other)
   one_file file bytes entries others fault other (events, ended, read, first) (events2, ended2, read2, second) =
@@ -65,18 +64,18 @@ no_file_fault file ended not none = not (ap (file_fault file) none)
 
 -- a run, and the same over events behind it
 lengthened : (file : ℕ) (o : List LogEntry × Ending) (new : List SignedEvent) (ended later : Option (ℕ × FileFault)) → (ended ≢ None → (new ≡ []) × (later ≡ ended))
-    → Lengthens (closed file ended o).0 (closed file later (joined file o new)).0 (closed file ended o).1 (closed file later (joined file o new)).1
+    → LengthensLog (closed file ended o).0 (closed file later (joined file o new)).0 (closed file ended o).1 (closed file later (joined file o new)).1
 lengthened file (entries, Misplaced event fault) new ended later stays = record { new = []; kept = sym (append-nil entries); stays = λ _. (refl, refl) }
-lengthened file (entries, Reached stage) new ended later stays = at_end (outcome file stage new) refl
+lengthened file (entries, Reached progress) new ended later stays = at_end (outcome file progress new) refl
   where
-    at_end : (o : List LogEntry × Ending) → outcome file stage new ≡ o
-        → Lengthens entries (closed file later (entries ++ o.0, o.1)).0 (file_fault file ended) (closed file later (entries ++ o.0, o.1)).1
+    at_end : (o : List LogEntry × Ending) → outcome file progress new ≡ o
+        → LengthensLog entries (closed file later (entries ++ o.0, o.1)).0 (file_fault file ended) (closed file later (entries ++ o.0, o.1)).1
     at_end (more, Reached last) is = record {
       new = more;
       kept = refl;
       stays = λ not.
           let kept = stays (no_file_fault file ended not) in
-          let same : (more, Reached last) ≡ ([], Reached stage) = sym is ∙ ap (outcome file stage) kept.0 in
+          let same : (more, Reached last) ≡ ([], Reached progress) = sym is ∙ ap (outcome file progress) kept.0 in
           (ap (λ (p : List LogEntry × Ending). p.0) same, ap (file_fault file) kept.1);
     }
     at_end (more, Misplaced event fault) is = record {
@@ -84,25 +83,25 @@ lengthened file (entries, Reached stage) new ended later stays = at_end (outcome
       kept = refl;
       stays = λ not.
           let kept = stays (no_file_fault file ended not) in
-          let same : (more, Misplaced event fault) ≡ ([], Reached stage) = sym is ∙ ap (outcome file stage) kept.0 in
-          let ends : Misplaced event fault ≡ Reached stage = ap (λ (p : List LogEntry × Ending). p.1) same in
+          let same : (more, Misplaced event fault) ≡ ([], Reached progress) = sym is ∙ ap (outcome file progress) kept.0 in
+          let ends : Misplaced event fault ≡ Reached progress = ap (λ (p : List LogEntry × Ending). p.1) same in
           absurd (cc);
     }
 
 -- as far as the lists and faults are these
 lengthens_as : (entries longer others further : List LogEntry) (fault later other last : Option (Place × NodeFault))
-    → listed entries fault ≡ listed others other → listed longer later ≡ listed further last → Lengthens others further other last → Lengthens entries longer fault later
+    → listed entries fault ≡ listed others other → listed longer later ≡ listed further last → LengthensLog others further other last → LengthensLog entries longer fault later
 lengthens_as entries longer others further fault later other last first second h =
     let a = same_entries entries others fault other first in
     let b = same_entries longer further later last second in
-    subst (λ (list : List LogEntry). Lengthens list longer fault later) (sym a.0)
-    (subst (λ (list : List LogEntry). Lengthens others list fault later) (sym b.0)
-    (subst (λ (f : Option (Place × NodeFault)). Lengthens others further f later) (sym a.1)
-    (subst (λ (f : Option (Place × NodeFault)). Lengthens others further other f) (sym b.1) h)))
+    subst (λ (list : List LogEntry). LengthensLog list longer fault later) (sym a.0)
+    (subst (λ (list : List LogEntry). LengthensLog others list fault later) (sym b.0)
+    (subst (λ (f : Option (Place × NodeFault)). LengthensLog others further f later) (sym a.1)
+    (subst (λ (f : Option (Place × NodeFault)). LengthensLog others further other f) (sym b.1) h)))
 
 module _ (grown : GrownFileContinues) where
   file_grows : (file : ℕ) (bytes more : List ℕ) (entries longer : List LogEntry) (fault later : Option (Place × NodeFault))
-      → AreFileEntries file bytes entries fault → AreFileEntries file (bytes ++ more) longer later → Lengthens entries longer fault later
+      → AreFileEntries file bytes entries fault → AreFileEntries file (bytes ++ more) longer later → LengthensLog entries longer fault later
   file_grows file bytes more entries longer fault later (events, ended, read, first) (events2, ended2, read2, second) =
       let kept = grown 0 0 bytes more events events2 ended ended2 read read2 in
       let o = outcome file Out (map signed events) in
@@ -132,7 +131,7 @@ first_file file bytes files entries fault (inr (own, later, is, are, rest)) = go
 
 -- the first files being one, the rest decides
 lengthens_behind : (own other later further entries longer : List LogEntry) (fault last : Option (Place × NodeFault))
-    → own ≡ other → entries ≡ own ++ later → longer ≡ other ++ further → Lengthens later further fault last → Lengthens entries longer fault last
+    → own ≡ other → entries ≡ own ++ later → longer ≡ other ++ further → LengthensLog later further fault last → LengthensLog entries longer fault last
 lengthens_behind own other later further entries longer fault last same first second h = record {
   new = h.new;
   kept = second ∙ ap (λ (list : List LogEntry). other ++ list) h.kept ∙ sym (append_assoc other later h.new)
@@ -141,20 +140,20 @@ lengthens_behind own other later further entries longer fault last same first se
 }
 
 -- nothing is longer than itself
-lengthens_itself : (entries others : List LogEntry) (fault other : Option (Place × NodeFault)) → entries ≡ others → fault ≡ other → Lengthens entries others fault other
+lengthens_itself : (entries others : List LogEntry) (fault other : Option (Place × NodeFault)) → entries ≡ others → fault ≡ other → LengthensLog entries others fault other
 lengthens_itself entries others fault other same is = record { new = []; kept = sym same ∙ sym (append-nil entries); stays = λ _. (refl, sym is) }
 
 -- a file without a fault, and what comes behind it
 lengthens_nothing : (entries own new further longer : List LogEntry) (fault last : Option (Place × NodeFault))
-    → fault ≡ None → entries ≡ own → longer ≡ (own ++ new) ++ further → Lengthens entries longer fault last
+    → fault ≡ None → entries ≡ own → longer ≡ (own ++ new) ++ further → LengthensLog entries longer fault last
 lengthens_nothing entries own new further longer fault last none is all = record {
   new = new ++ further;
   kept = all ∙ append_assoc own new further ∙ ap (λ (list : List LogEntry). list ++ (new ++ further)) (sym is);
   stays = λ not. absurd (not none);
 }
 
-module _ (one : OneFileReading) where
-  one_list : (file : ℕ) (files : List (List ℕ)) (entries others : List LogEntry) (fault other : Option (Place × NodeFault))
+module _ (one : FilesHaveOneReading) where
+  pub one_list : (file : ℕ) (files : List (List ℕ)) (entries others : List LogEntry) (fault other : Option (Place × NodeFault))
       → AreEntriesFrom file files entries fault → AreEntriesFrom file files others other → (entries ≡ others) × (fault ≡ other)
   one_list file [] entries others fault other first second = (first.0 ∙ sym second.0, first.1 ∙ sym second.1)
   one_list file (bytes ∷ files) entries others fault other first second =
@@ -174,10 +173,10 @@ module _ (one : OneFileReading) where
   pub log_has_one_entry_list : OneEntryList
   log_has_one_entry_list files entries others fault other = one_list 1 files entries others fault other
 
-module _ (one : OneFileReading) (grown : GrownFileContinues) where
+module _ (one : FilesHaveOneReading) (grown : GrownFileContinues) where
   -- the last file of the older log, and the same file with more bytes
   last_grows : (file : ℕ) (bytes more : List ℕ) (files : List (List ℕ)) (entries longer : List LogEntry) (fault later : Option (Place × NodeFault))
-      → FirstFile file bytes [] entries fault → FirstFile file (bytes ++ more) files longer later → Lengthens entries longer fault later
+      → FirstFile file bytes [] entries fault → FirstFile file (bytes ++ more) files longer later → LengthensLog entries longer fault later
   last_grows file bytes more files entries longer fault later (ends_here not are) (ends_here not2 are2) = file_grows grown file bytes more entries longer fault later are are2
   last_grows file bytes more files entries longer fault later (ends_here not are) (goes_on own rest is are2 from) =
       let h = file_grows grown file bytes more entries own fault None are are2 in
@@ -194,8 +193,8 @@ module _ (one : OneFileReading) (grown : GrownFileContinues) where
   -- a file that stands in both logs, and what is behind it
   file_stays : (file : ℕ) (bytes : List ℕ) (files others : List (List ℕ)) (entries longer : List LogEntry) (fault later : Option (Place × NodeFault))
       → FirstFile file bytes files entries fault → FirstFile file bytes others longer later
-      → ((own further : List LogEntry) → AreEntriesFrom (file + 1) files own fault → AreEntriesFrom (file + 1) others further later → Lengthens own further fault later)
-      → Lengthens entries longer fault later
+      → ((own further : List LogEntry) → AreEntriesFrom (file + 1) files own fault → AreEntriesFrom (file + 1) others further later → LengthensLog own further fault later)
+      → LengthensLog entries longer fault later
   file_stays file bytes files others entries longer fault later (ends_here not are) (ends_here not2 are2) rest =
       let same = one_file one file bytes entries longer fault later are are2 in lengthens_itself entries longer fault later same.0 same.1
   file_stays file bytes files others entries longer fault later (ends_here not are) (goes_on own2 rest2 is2 are2 from2) rest =
@@ -207,7 +206,7 @@ module _ (one : OneFileReading) (grown : GrownFileContinues) where
       (rest rest1 rest2 from from2)
 
   entries_grow : (file : ℕ) (files others : List (List ℕ)) (entries longer : List LogEntry) (fault later : Option (Place × NodeFault))
-      → IsLogPrefix files others → AreEntriesFrom file files entries fault → AreEntriesFrom file others longer later → Lengthens entries longer fault later
+      → IsLogPrefix files others → AreEntriesFrom file files entries fault → AreEntriesFrom file others longer later → LengthensLog entries longer fault later
   entries_grow file [] others entries longer fault later prefix first second = record {
     new = longer;
     kept = ap (λ (list : List LogEntry). list ++ longer) (sym first.0);

@@ -8,7 +8,8 @@ use Rattle.cdc_base.specs.declared.xid.Xid.{Xid}
 use Rattle.cdc_model.specs.declared.entry.EntryKind.{EntryKind}
 use Rattle.cdc_model.specs.declared.entry.EntryKind.TheVariants.{Prepare, OnePhase, Commit, Rollback, Plain, Beat}
 use Rattle.cdc_model.specs.Records.{OpenBranch, Start}
-use Rattle.cdc_model.specs.Start.{same_xid, xid_order, find_open, without, enter, opened_by, left}
+use Rattle.cdc_base.specs.Xid.{same_xid, xid_order}
+use Rattle.cdc_model.specs.Start.{find_open, without, enter, opened_by, left}
 use Rattle.cdc_model.specs.Watermark.{verdict, verdict_or, OpenAsNewestSays}
 
 pub same_xid_laws : IsEquivalence same_xid

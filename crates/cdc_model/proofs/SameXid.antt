@@ -3,7 +3,7 @@ use Rattle.std.proofs.Common.{◌≡◌, ◌==◌, ◌&&◌, ℕ, Bool, true, fa
 use Rattle.std.proofs.lemmas.Bool.Decides.{nat_tests}
 use Rattle.std.specs.Cmp.Lexicographic.{pointwise}
 use Rattle.cdc_base.specs.declared.xid.Xid.{Xid}
-use Rattle.cdc_model.specs.Start.{same_xid}
+use Rattle.cdc_base.specs.Xid.{same_xid}
 
 pub no_test : false ≡ true → ⊥
 no_test e = cc

@@ -7,7 +7,7 @@ use Rattle.cdc_model.specs.Records.{Transaction, OutputUnit}
 use Rattle.cdc_model.specs.Layout.{begins_file}
 use Rattle.cdc_model.specs.Print.{printed_bytes, printed_length}
 use Rattle.cdc_model.specs.Output.{Output, no_output, output_after, file_head, file_begun, file_reached, rotate_event, open_file, output_with, files_in, last_closed, layout_with, layout_in}
-use Rattle.cdc_model.specs.Unit.{rotate_behind, unit_of, appended_to, IsStep, UnitsAreSteps, UnitsMakeFiles}
+use Rattle.cdc_model.specs.Unit.{rotate_behind, unit_of, appended_to, IsOutputStep, UnitsAreSteps, UnitsMakeFiles}
 use Rattle.cdc_model.proofs.PrintLength.{length_printed}
 use Rattle.cdc_model.proofs.Files.{one_more_is_one_step}
 
@@ -145,7 +145,7 @@ module _ (rules : List Rename) (rotation : ℕ) (txn : Transaction) where
       → file_begun current ≡ current ++ head → at ≡ length (current ++ head) → 1 ≤ at → number ≡ length closed + 1
       → (let end : ℕ = at + printed_length rules txn in
       let bytes : List ℕ = head ++ (printed_bytes rules txn at ++ rotate_behind rotation end number) in
-      IsStep rules rotation txn (record {
+      IsOutputStep rules rotation txn (record {
         number = txn.number;
         key = txn.key;
         before = before;
@@ -168,10 +168,10 @@ module _ (rules : List Rename) (rotation : ℕ) (txn : Transaction) where
       }
 
   abbrev Steps : Layout → List (List ℕ) → List ℕ → Bool → Type 0
-  Steps before closed current begins = IsStep rules rotation txn (unit_by begins rules rotation txn before) (record { closed = closed; current = current })
+  Steps before closed current begins = IsOutputStep rules rotation txn (unit_by begins rules rotation txn before) (record { closed = closed; current = current })
 
   step_of : (closed : List (List ℕ)) (current : List ℕ)
-      → IsStep rules rotation txn (unit_of rules rotation txn (layout_with closed current)) (record { closed = closed; current = current })
+      → IsOutputStep rules rotation txn (unit_of rules rotation txn (layout_with closed current)) (record { closed = closed; current = current })
   step_of [] [] = step_with (layout_with [] []) [] [] file_head (length file_head) 1 refl refl head_begins refl
   step_of (first ∷ closed) [] =
       let before : Layout = last_closed 1 (first ∷ closed) in
@@ -187,7 +187,7 @@ module _ (rules : List Rename) (rotation : ℕ) (txn : Transaction) where
       subst (Steps before closed current) (sym begins)
       (step_with before closed current [] (length current) (length closed + 1) (sym (append-nil current)) (ap length (sym (append-nil current))) (omega arith) refl)
 
-  step_from : (output : Output) → IsStep rules rotation txn (unit_of rules rotation txn (layout_in output)) output
+  step_from : (output : Output) → IsOutputStep rules rotation txn (unit_of rules rotation txn (layout_in output)) output
   step_from output = step_of output.closed output.current
 
 -- a file that is left open is below the rotation size
@@ -214,7 +214,7 @@ units_are_steps rules rotation txn before = record {
   key = refl;
   begins = refl;
   below = unit_open (begins_file before) rules rotation txn before;
-  step = λ output is. subst (λ (layout : Layout). IsStep rules rotation txn (unit_of rules rotation txn layout) output) is (step_from rules rotation txn output);
+  step = λ output is. subst (λ (layout : Layout). IsOutputStep rules rotation txn (unit_of rules rotation txn layout) output) is (step_from rules rotation txn output);
 }
 
 pub units_make_files : UnitsMakeFiles

@@ -13,7 +13,7 @@ use Rattle.cdc_model.specs.declared.fault.GroupFault.TheVariants.{NoTimestamp, B
 use Rattle.cdc_model.specs.Records.{Row, LogEntry}
 use Rattle.cdc_model.specs.Print.{statement_in}
 use Rattle.cdc_model.specs.Sign.{Sign, SignedEvent, Gtid, Quiet, Ddl, Marked, CommitTime, BeatTime, NoTime, RowEvent, NumberEvent, PrepareEvent, BeginText, CommitText, RollbackText, SavepointText, XaStartText, XaEndText, XaCommitText, XaRollbackText, OtherText, Foreign, sign_of_verb, sign_of_body, signed}
-use Rattle.cdc_model.specs.Group.{TableRows, OneStatement, Stage, Out, Wait, Xa, End, Local}
+use Rattle.cdc_model.specs.Group.{TableRows, OneStatement, Progress, Out, Wait, Xa, End, Local}
 use Rattle.cdc_model.specs.Misfit.{misfit}
 use Rattle.cdc_model.proofs.GroupMachine.{Ending, Reached, Misplaced, outcome}
 
@@ -37,14 +37,14 @@ create = codes "DDL::d1::CREATE TABLE t (a INT)"
 abbrev create_row : Row
 create_row = (29, RowsQuery 31 create)
 
--- ---- the table: which fault a sign has in which stage
+-- ---- the table: which fault a sign has in which progress
 
 -- outside, behind a timestamp, in an XA group, behind its end, in a local transaction
-abbrev stages : List Stage
-stages = Out ∷ Wait 10 ∷ Xa None g1 (TableRows []) ∷ End None g1 (TableRows []) ∷ Local [] ∷ []
+abbrev progress : List Progress
+progress = Out ∷ Wait 10 ∷ Xa None g1 (TableRows []) ∷ End None g1 (TableRows []) ∷ Local [] ∷ []
 
 abbrev faults : Sign → List (Option GroupFault)
-faults sign = map (λ stage. misfit stage sign) stages
+faults sign = map (λ progress. misfit progress sign) progress
 
 abbrev fits : Option GroupFault
 fits = None

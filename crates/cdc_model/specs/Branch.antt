@@ -33,20 +33,21 @@ branch_of node (Plain rows seconds) start =
 branch_of node (Beat timestamp) start = []
 
 -- all branches that a history commits, the oldest first
-abbrev pub begun : Start → ℕ → List LogEntry → List Begun
-begun start node [] = []
-begun start node (entry ∷ earlier) = begun start node earlier ++ branch_of node entry.kind (left start earlier)
+abbrev pub begun_branches : Start → ℕ → List LogEntry → List Begun
+begun_branches start node [] = []
+begun_branches start node (entry ∷ earlier) = begun_branches start node earlier ++ branch_of node entry.kind (left start earlier)
 
 -- a branch that began at or behind the starting point, and whose key is above the last one
 abbrev pub is_new : Key → Start → Begun → Bool
 is_new last start b = nat_le start.entry b.0 && is_gt (key_order b.1.key last)
 
+-- the branches that are new behind a starting point, above a last key
 abbrev pub new_branches : Key → Start → List Begun → List CommittedBranch
 new_branches last start branches = map (λ b. b.1) (filter (is_new last start) branches)
 
 -- the committed branches of a node's history, read from a starting point, with keys above the last one
 abbrev pub committed_branches : Key → Start → ℕ → List LogEntry → List CommittedBranch
-committed_branches last start node history = new_branches last start (begun start node history)
+committed_branches last start node history = new_branches last start (begun_branches start node history)
 
 -- a key is settled where no node can still bring it or a lesser one: a shared key at or below the low-water
 -- mark of all nodes, a local one below it

@@ -11,26 +11,26 @@ use Rattle.cdc_model.specs.declared.fault.NodeFault.TheVariants.{File, Group}
 use Rattle.cdc_model.specs.Records.{LogEntry}
 use Rattle.cdc_model.specs.Log.{IsLogPrefix}
 use Rattle.cdc_model.specs.Sign.{SignedEvent, signed}
-use Rattle.cdc_model.specs.Group.{Reads, Fits, Stage, Reaches}
+use Rattle.cdc_model.specs.Group.{ReadsItems, Fits, Progress, Reaches}
 use Rattle.cdc_model.specs.Misfit.{misfit}
 
 -- events: whole items with these entries, and then an unfinished item that has come so far
-pub record ReadsTo (file : ℕ) (events : List SignedEvent) (entries : List LogEntry) (stage : Stage) : Type 0 where
+pub record ReadsTo (file : ℕ) (events : List SignedEvent) (entries : List LogEntry) (progress : Progress) : Type 0 where
   pub whole : List SignedEvent
   pub part : List SignedEvent
   pub events_in_order : events ≡ whole ++ part
-  pub reads : Reads file whole entries
-  pub reaches : Reaches part stage
+  pub reads : ReadsItems file whole entries
+  pub reaches : Reaches part progress
 
 -- the first event with which events cease to fit, and what is wrong with it
 pub record CeasesToFit (file : ℕ) (events : List SignedEvent) (entries : List LogEntry) (misplaced : SignedEvent) (fault : GroupFault) : Type 0 where
   pub front : List SignedEvent
   pub behind : List SignedEvent
-  pub stage : Stage
+  pub progress : Progress
   pub events_in_order : events ≡ front ++ misplaced ∷ behind
-  pub reads : ReadsTo file front entries stage
+  pub reads : ReadsTo file front entries progress
   pub ceases : Fits file (front ++ misplaced ∷ []) → ⊥
-  pub kind : misfit stage (misplaced.sign) ≡ Some fault
+  pub kind : misfit progress (misplaced.sign) ≡ Some fault
 
 -- a fault of a file's bytes at its place
 abbrev pub file_fault : ℕ → Option (ℕ × FileFault) → Option (Place × NodeFault)
@@ -40,7 +40,7 @@ file_fault file found = option_map (λ (fault : ℕ × FileFault). (record { fil
 -- and the fault is the bytes' own
 abbrev pub AreEntriesOfEvents : ℕ → List SignedEvent → Option (ℕ × FileFault) → List LogEntry → Option (Place × NodeFault) → Type 0
 AreEntriesOfEvents file events ended entries fault =
-    ((stage : Stage) × ReadsTo file events entries stage × (fault ≡ file_fault file ended))
+    ((progress : Progress) × ReadsTo file events entries progress × (fault ≡ file_fault file ended))
     ⊎ ((misplaced : SignedEvent) × (wrong : GroupFault) × CeasesToFit file events entries misplaced wrong
     × (fault ≡ Some (record { file = file; at = misplaced.at }, Group wrong)))
 
@@ -63,19 +63,19 @@ AreLogEntries files entries fault = AreEntriesFrom 1 files entries fault
 -- ---- laws
 
 -- law: whole items are read in one way
-abbrev pub OneReading : Type 0
-OneReading = (file : ℕ) (events : List SignedEvent) (entries others : List LogEntry) → Reads file events entries → Reads file events others → entries ≡ others
+abbrev pub EventsHaveOneReading : Type 0
+EventsHaveOneReading = (file : ℕ) (events : List SignedEvent) (entries others : List LogEntry) → ReadsItems file events entries → ReadsItems file events others → entries ≡ others
 
 -- law: an unfinished item at the end is one, and so is how far it has come
-abbrev pub OneStage : Type 0
-OneStage = (file : ℕ) (events : List SignedEvent) (entries others : List LogEntry) (stage other : Stage)
-    → ReadsTo file events entries stage → ReadsTo file events others other → (entries ≡ others) × (stage ≡ other)
+abbrev pub OneProgress : Type 0
+OneProgress = (file : ℕ) (events : List SignedEvent) (entries others : List LogEntry) (progress other : Progress)
+    → ReadsTo file events entries progress → ReadsTo file events others other → (entries ≡ others) × (progress ≡ other)
 
 -- law: events fit exactly where they are whole items and an unfinished one
 abbrev pub FittingIsRead : Type 0
 FittingIsRead =
-    ((file : ℕ) (events : List SignedEvent) → Fits file events → (entries : List LogEntry) × (stage : Stage) × ReadsTo file events entries stage)
-    × ((file : ℕ) (events : List SignedEvent) (entries : List LogEntry) (stage : Stage) → ReadsTo file events entries stage → Fits file events)
+    ((file : ℕ) (events : List SignedEvent) → Fits file events → (entries : List LogEntry) × (progress : Progress) × ReadsTo file events entries progress)
+    × ((file : ℕ) (events : List SignedEvent) (entries : List LogEntry) (progress : Progress) → ReadsTo file events entries progress → Fits file events)
 
 -- law: what fits has fronts that fit, and where no items begin so, none begin with more
 abbrev pub FrontsFit : Type 0
@@ -83,10 +83,10 @@ FrontsFit = (file : ℕ) (front more : List SignedEvent) → (Fits file (front +
 
 -- law: one event more fits exactly where the table has no fault for it
 abbrev pub MisfitsAreTold : Type 0
-MisfitsAreTold = (file : ℕ) (events : List SignedEvent) (entries : List LogEntry) (stage : Stage) (next : SignedEvent)
-    → ReadsTo file events entries stage
-    → (misfit stage next.sign ≡ None → Fits file (events ++ next ∷ []))
-    × ((fault : GroupFault) → misfit stage next.sign ≡ Some fault → Fits file (events ++ next ∷ []) → ⊥)
+MisfitsAreTold = (file : ℕ) (events : List SignedEvent) (entries : List LogEntry) (progress : Progress) (next : SignedEvent)
+    → ReadsTo file events entries progress
+    → (misfit progress next.sign ≡ None → Fits file (events ++ next ∷ []))
+    × ((fault : GroupFault) → misfit progress next.sign ≡ Some fault → Fits file (events ++ next ∷ []) → ⊥)
 
 -- law: events have entries, whatever they are
 abbrev pub EventsHaveEntries : Type 0
@@ -104,7 +104,7 @@ OneEntryList = (files : List (List ℕ)) (entries others : List LogEntry) (fault
     → AreLogEntries files entries fault → AreLogEntries files others other → (entries ≡ others) × (fault ≡ other)
 
 -- the entries of a longer log begin with those of a shorter, and a fault stays
-pub record Lengthens (entries longer : List LogEntry) (fault later : Option (Place × NodeFault)) : Type 0 where
+pub record LengthensLog (entries longer : List LogEntry) (fault later : Option (Place × NodeFault)) : Type 0 where
   pub new : List LogEntry
   pub kept : longer ≡ entries ++ new
   pub stays : fault ≢ None → (new ≡ []) × (later ≡ fault)
@@ -112,4 +112,4 @@ pub record Lengthens (entries longer : List LogEntry) (fault later : Option (Pla
 -- law: a log that continues another keeps its entries, and its fault where it had one
 abbrev pub ContinuedLogKeepsEntries : Type 0
 ContinuedLogKeepsEntries = (files others : List (List ℕ)) (entries longer : List LogEntry) (fault later : Option (Place × NodeFault))
-    → IsLogPrefix files others → AreLogEntries files entries fault → AreLogEntries others longer later → Lengthens entries longer fault later
+    → IsLogPrefix files others → AreLogEntries files entries fault → AreLogEntries others longer later → LengthensLog entries longer fault later

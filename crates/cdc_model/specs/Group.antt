@@ -20,6 +20,7 @@ pub data Content : Type 0 where
   TableRows : List Row → Content
   OneStatement : Row → Content
 
+-- a content's rows: a statement is one row
 abbrev pub rows_of : Content → List Row
 rows_of (TableRows rows) = rows
 rows_of (OneStatement row) = row ∷ []
@@ -90,7 +91,7 @@ IsItem file (events, Some entry) =
     (front : List SignedEvent) × (last : SignedEvent) × (events ≡ front ++ last ∷ []) × IsEntryOf entry.kind front last × StandsAt file last entry
 
 -- events that are whole items, and the entries that these make
-pub record Reads (file : ℕ) (events : List SignedEvent) (entries : List LogEntry) : Type 0 where
+pub record ReadsItems (file : ℕ) (events : List SignedEvent) (entries : List LogEntry) : Type 0 where
   pub items : List (List SignedEvent × Option LogEntry)
   pub each : AllByRecursion (IsItem file) items
   pub events_in_order : events ≡ flat_map (λ (item : List SignedEvent × Option LogEntry). item.0) items
@@ -100,21 +101,22 @@ pub record Reads (file : ℕ) (events : List SignedEvent) (entries : List LogEnt
 pub record Fits (file : ℕ) (events : List SignedEvent) : Type 0 where
   pub more : List SignedEvent
   pub entries : List LogEntry
-  pub reads : Reads file (events ++ more) entries
+  pub reads : ReadsItems file (events ++ more) entries
 
 -- ---- how far an unfinished item has come
 
-pub data Stage : Type 0 where
+-- how far an unfinished item has come
+pub data Progress : Type 0 where
   -- no item has begun
-  Out : Stage
+  Out : Progress
   -- a commit timestamp waits for what it belongs to
-  Wait : ℕ → Stage
+  Wait : ℕ → Progress
   -- an XA group before its end, and the commit timestamp before it
-  Xa : Option ℕ → Xid → Content → Stage
+  Xa : Option ℕ → Xid → Content → Progress
   -- an XA group behind its end
-  End : Option ℕ → Xid → Content → Stage
+  End : Option ℕ → Xid → Content → Progress
   -- a local transaction
-  Local : List Row → Stage
+  Local : List Row → Progress
 
 -- what may stand before a group
 abbrev pub IsTimed : Option ℕ → List SignedEvent → Type 0
@@ -122,7 +124,7 @@ IsTimed None events = events ≡ []
 IsTimed (Some timestamp) events = IsStamp timestamp events
 
 -- the events of an unfinished item
-abbrev pub Reaches : List SignedEvent → Stage → Type 0
+abbrev pub Reaches : List SignedEvent → Progress → Type 0
 Reaches events Out = events ≡ []
 Reaches events (Wait timestamp) = IsStamp timestamp events
 Reaches events (Xa time xid content) =

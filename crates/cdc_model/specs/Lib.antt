@@ -14,3 +14,15 @@ pub mod Print
 pub mod Transaction
 pub mod Output
 pub mod Unit
+pub mod Openings
+pub mod Commits
+pub mod FirstFault
+pub mod SettledOrder
+pub mod Feed
+pub mod Advance
+pub mod ReadFrom
+pub mod GrammarRows
+pub mod Growth
+pub mod Restart
+pub mod OneFile
+pub mod NodeReading

@@ -3,9 +3,9 @@ use Rattle.std.specs.Prelude.{◌==◌, ℕ, [], ◌∷◌, if◌then◌else◌,
 use Rattle.cdc_base.specs.declared.xid.Xid.{Xid}
 use Rattle.cdc_model.specs.declared.fault.GroupFault.{GroupFault}
 use Rattle.cdc_model.specs.declared.fault.GroupFault.TheVariants.{NoTimestamp, BadTimestamp, Statement, XidDiffers, RowsOutside, OutOfPlace, BadDdl}
-use Rattle.cdc_model.specs.Start.{same_xid}
+use Rattle.cdc_base.specs.Xid.{same_xid}
 use Rattle.cdc_model.specs.Sign.{Sign, Gtid, Quiet, Ddl, Marked, CommitTime, BeatTime, NoTime, RowEvent, NumberEvent, PrepareEvent, CommitText, RollbackText, SavepointText, XaStartText, XaEndText, XaCommitText, OtherText, Foreign}
-use Rattle.cdc_model.specs.Group.{Content, TableRows, OneStatement, Stage, Out, Wait, Xa, End, Local}
+use Rattle.cdc_model.specs.Group.{Content, TableRows, OneStatement, Progress, Out, Wait, Xa, End, Local}
 
 -- outside a group
 abbrev pub misfit_outside : Sign → Option GroupFault
@@ -32,6 +32,7 @@ misfit_statement (TableRows []) = None
 misfit_statement (TableRows (row ∷ rows)) = Some BadDdl
 misfit_statement (OneStatement row) = Some BadDdl
 
+-- a row may not stand beside a statement
 abbrev pub misfit_row : Content → Option GroupFault
 misfit_row (TableRows rows) = None
 misfit_row (OneStatement row) = Some BadDdl
@@ -95,7 +96,7 @@ misfit_local NumberEvent = None
 misfit_local _ = Some OutOfPlace
 
 -- what is wrong with an event of this sign behind an unfinished item that has come so far; nothing where it fits
-abbrev pub misfit : Stage → Sign → Option GroupFault
+abbrev pub misfit : Progress → Sign → Option GroupFault
 misfit Out sign = misfit_outside sign
 misfit (Wait timestamp) sign = misfit_waiting sign
 misfit (Xa time xid content) sign = misfit_xa xid content sign

@@ -1,21 +1,13 @@
 -- What entries leave behind them. A history is a list of entries, the newest first; it leaves the starting
 -- point of all that comes later, and the definitions of faults, water marks and branches read that alone.
-use Rattle.std.specs.Prelude.{◌≡◌, ◌++◌, take, drop, ℕ, ◌+◌, ◌==◌, ◌&&◌, not, max, Bool, List, [], ◌∷◌, if◌then◌else◌, nat_eq, filter, Option}
+use Rattle.std.specs.Prelude.{ℕ, ◌+◌, ◌==◌, ◌&&◌, not, max, Bool, List, [], ◌∷◌, if◌then◌else◌, nat_eq, filter, Option}
 use Rattle.std.specs.List.{find}
-use Rattle.std.specs.Ordering.{nat_cmp, on, then_cmp, is_lt}
-use Rattle.std.specs.Cmp.Lexicographic.{pointwise, slice_cmp}
-use Rattle.std.specs.declared.cmp.Ordering.{Ordering}
+use Rattle.std.specs.Ordering.{is_lt}
 use Rattle.cdc_base.specs.declared.xid.Xid.{Xid}
+use Rattle.cdc_base.specs.Xid.{same_xid, xid_order}
 use Rattle.cdc_model.specs.declared.entry.EntryKind.{EntryKind}
 use Rattle.cdc_model.specs.declared.entry.EntryKind.TheVariants.{Prepare, OnePhase, Commit, Rollback, Plain, Beat}
 use Rattle.cdc_model.specs.Records.{LogEntry, OpenBranch, Start}
-
-abbrev pub same_xid : Xid → Xid → Bool
-same_xid x y = pointwise nat_eq x.gtrid y.gtrid && (pointwise nat_eq x.bqual y.bqual && x.format == y.format)
-
--- the order of open branches: by global id, qualifier, format
-abbrev pub xid_order : Xid → Xid → Ordering
-xid_order = then_cmp (on (λ (x : Xid). x.gtrid) (slice_cmp nat_cmp)) (then_cmp (on (λ (x : Xid). x.bqual) (slice_cmp nat_cmp)) (on (λ (x : Xid). x.format) nat_cmp))
 
 -- the start of a log: entry 1 comes next, no timestamp yet, no open branch
 abbrev pub beginning : Start
@@ -63,11 +55,3 @@ next kind start =
 abbrev pub left : Start → List LogEntry → Start
 left start [] = start
 left start (entry ∷ earlier) = next entry.kind (left start earlier)
-
--- where a branch of an xid enters: its place splits the list as `enter` does
-abbrev pub IsPlaceFor : Xid → List OpenBranch → ℕ → Type 0
-IsPlaceFor xid opened place = (branch : OpenBranch) → branch.xid ≡ xid → enter branch opened ≡ take place opened ++ (branch ∷ drop place opened)
-
--- places before it are no place for an xid to enter
-abbrev pub IsPassed : Xid → List OpenBranch → ℕ → Type 0
-IsPassed xid opened place = (branch : OpenBranch) → branch.xid ≡ xid → enter branch opened ≡ take place opened ++ enter branch (drop place opened)

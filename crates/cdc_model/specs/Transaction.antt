@@ -8,8 +8,8 @@ use Rattle.std.specs.declared.cmp.Ordering.TheVariants.{Less, Equal, Greater}
 use Rattle.cdc_base.specs.declared.key.Key.{Key}
 use Rattle.cdc_base.specs.declared.key.Key.TheVariants.{Shared}
 use Rattle.cdc_base.specs.declared.rename.Rename.{Rename}
-use Rattle.cdc_base.specs.Key.{key_order}
-use Rattle.cdc_model.specs.declared.start.NodeLog.{NodeLog}
+use Rattle.cdc_base.specs.Key.{key_order, first_key}
+use Rattle.cdc_model.specs.declared.node_log.NodeLog.{NodeLog}
 use Rattle.cdc_model.specs.Records.{CommittedBranch, Transaction}
 use Rattle.cdc_model.specs.Watermark.{node_low_water_mark, low_water_mark}
 use Rattle.cdc_model.specs.Soundness.{sound_history, reached}
@@ -20,6 +20,7 @@ use Rattle.cdc_model.specs.Print.{printed_length}
 abbrev pub node_branches : Key → ℕ × NodeLog → List CommittedBranch
 node_branches last node = committed_branches last node.1.start node.0 (sound_history node.1)
 
+-- the committed branches of all nodes above a last key, node 1 first
 abbrev pub all_branches : Key → List NodeLog → List CommittedBranch
 all_branches last logs = flat_map (node_branches last) (enumerate_from 1 logs)
 
@@ -32,19 +33,21 @@ abbrev pub logs_low_water_mark : List NodeLog → ℕ
 logs_low_water_mark logs = low_water_mark (map (λ log. node_low_water_mark (reached log)) logs)
 
 -- a key at its place among others in order; one that is there already is dropped
-abbrev pub placed : Ordering → Key → Key → List Key → List Key → List Key
-placed Less key first rest later = key ∷ first ∷ rest
-placed Equal key first rest later = first ∷ rest
-placed Greater key first rest later = first ∷ later
+abbrev pub placed_key : Ordering → Key → Key → List Key → List Key → List Key
+placed_key Less key first rest later = key ∷ first ∷ rest
+placed_key Equal key first rest later = first ∷ rest
+placed_key Greater key first rest later = first ∷ later
 
+-- a key at its place among keys in order, unless it is there
 abbrev pub put : Key → List Key → List Key
 put key [] = key ∷ []
-put key (first ∷ rest) = placed (key_order key first) key first rest (put key rest)
+put key (first ∷ rest) = placed_key (key_order key first) key first rest (put key rest)
 
 -- the settled keys of some branches, in order, each once
 abbrev pub add_settled : ℕ → List Key → CommittedBranch → List Key
 add_settled mark keys branch = if is_settled mark branch.key then put branch.key keys else keys
 
+-- the settled keys of branches, in order, each once
 abbrev pub settled_keys : ℕ → List CommittedBranch → List Key
 settled_keys mark branches = fold (add_settled mark) [] branches
 
@@ -52,6 +55,7 @@ settled_keys mark branches = fold (add_settled mark) [] branches
 abbrev pub has_key : Key → CommittedBranch → Bool
 has_key key branch = is_eq (key_order key branch.key)
 
+-- the first branch's seconds
 abbrev pub first_seconds : List CommittedBranch → ℕ
 first_seconds [] = 0
 first_seconds (branch ∷ branches) = branch.seconds
@@ -86,14 +90,12 @@ settled_transactions rules count last logs = before_first (is_oversized rules) (
 abbrev pub oversized_transaction : List Rename → ℕ → Key → List NodeLog → Option Transaction
 oversized_transaction rules count last logs = find (is_oversized rules) (ordered_transactions count last logs)
 
--- the key before all others, and that of the n-th transaction
-abbrev pub first_key : Key
-first_key = Shared 0 []
-
+-- the key of the n-th transaction, and before the first the key before all others
 abbrev pub key_or_first : Option Transaction → Key
 key_or_first None = first_key
 key_or_first (Some txn) = txn.key
 
+-- the key of the n-th transaction, and the key before all others for 0
 abbrev pub key_at : List Transaction → ℕ → Key
 key_at txns zero = first_key
 key_at txns (suc before) = key_or_first (slice_get txns before)
@@ -139,6 +141,7 @@ pub record OversizedEnds (rules : List Rename) (settled : List Transaction) (ove
   pub fits : (txn : Transaction) → Contains settled txn → printed_length rules txn ≤ 2 ^ 28
   pub above : (txn : Transaction) → oversized ≡ Some txn → 2 ^ 28 < printed_length rules txn
 
+-- law: what is settled fits, and what ends it does not
 abbrev pub SettledFit : Type 0
 SettledFit = (rules : List Rename) (count : ℕ) (last : Key) (logs : List NodeLog)
     → OversizedEnds rules (settled_transactions rules count last logs) (oversized_transaction rules count last logs)

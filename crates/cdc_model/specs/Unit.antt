@@ -49,23 +49,23 @@ appended_to number bytes (file ∷ files) = if number == 1 then (file ++ bytes) 
 
 -- a unit is an output's step with a transaction: the one file that it names grows by its bytes, all others stay, and
 -- the output then stands where the unit says
-pub record IsStep (rules : List Rename) (rotation : ℕ) (txn : Transaction) (unit : OutputUnit) (output : Output) : Type 0 where
+pub record IsOutputStep (rules : List Rename) (rotation : ℕ) (txn : Transaction) (unit : OutputUnit) (output : Output) : Type 0 where
   pub files : files_in (output_with rules rotation output txn) ≡ appended_to unit.after.file unit.bytes (files_in output)
   pub layout : layout_in (output_with rules rotation output txn) ≡ unit.after
 
 -- a unit is a transaction's: its step for each output that stands where the unit begins; a file that it leaves open is
 -- below the rotation size
-pub record IsStepFrom (rules : List Rename) (rotation : ℕ) (txn : Transaction) (before : Layout) (unit : OutputUnit) : Type 0 where
+pub record IsOutputStepFrom (rules : List Rename) (rotation : ℕ) (txn : Transaction) (before : Layout) (unit : OutputUnit) : Type 0 where
   pub number : unit.number ≡ txn.number
   pub key : unit.key ≡ txn.key
   pub begins : unit.before ≡ before
   pub below : IsTrue (not unit.after.closed) → unit.after.length < rotation
-  pub step : (output : Output) → layout_in output ≡ before → IsStep rules rotation txn unit output
+  pub step : (output : Output) → layout_in output ≡ before → IsOutputStep rules rotation txn unit output
 
 -- law: the unit of a transaction is its step
 abbrev pub UnitsAreSteps : Type 0
 UnitsAreSteps = (rules : List Rename) (rotation : ℕ) (txn : Transaction) (before : Layout)
-    → IsStepFrom rules rotation txn before (unit_of rules rotation txn before)
+    → IsOutputStepFrom rules rotation txn before (unit_of rules rotation txn before)
 
 -- a unit makes the files of some transactions those of one more
 pub record MakesFiles (rules : List Rename) (rotation : ℕ) (txns : List Transaction) (txn : Transaction) (unit : OutputUnit) : Type 0 where

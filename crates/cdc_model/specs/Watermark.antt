@@ -4,7 +4,8 @@ use Rattle.cdc_base.specs.declared.xid.Xid.{Xid}
 use Rattle.cdc_model.specs.declared.entry.EntryKind.{EntryKind}
 use Rattle.cdc_model.specs.declared.entry.EntryKind.TheVariants.{Prepare, OnePhase, Commit, Rollback, Plain, Beat}
 use Rattle.cdc_model.specs.Records.{LogEntry, Start}
-use Rattle.cdc_model.specs.Start.{same_xid, stamp, find_open, left}
+use Rattle.cdc_base.specs.Xid.{same_xid}
+use Rattle.cdc_model.specs.Start.{stamp, find_open, left}
 
 -- the least of some numbers and a first one
 abbrev pub least : ℕ → List ℕ → ℕ

@@ -1,18 +1,18 @@
 //! The laws of the grammar of a node's log: its events are read in one way, where they cease to fit is told by a table,
 //! and a log that goes on keeps its entries. Each function ensures its law, so that the check proves it.
 
-ghost use Rattle.cdc_model.specs.Entries.{OneReading, OneStage, FittingIsRead, FrontsFit, MisfitsAreTold, EventsHaveEntries, EachLogHasEntries, OneEntryList, ContinuedLogKeepsEntries};
+ghost use Rattle.cdc_model.specs.Entries.{EventsHaveOneReading, OneProgress, FittingIsRead, FrontsFit, MisfitsAreTold, EventsHaveEntries, EachLogHasEntries, OneEntryList, ContinuedLogKeepsEntries};
 
 use cdc_event::{each_file_is_read, file_is_read_in_one_way, grown_file_continues};
 
 /// A law: events that are whole items have one list of entries.
 pub fn entries_are_read_in_one_way()
-    ensures { OneReading }
+    ensures { EventsHaveOneReading }
 {}
 
 /// A law: how far an unfinished item at the end has come is told by the events.
 pub fn unfinished_item_is_one()
-    ensures { OneStage }
+    ensures { OneProgress }
 {}
 
 /// A law: events fit exactly where they are whole items and an unfinished one, or none, behind them.

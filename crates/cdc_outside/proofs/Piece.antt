@@ -2,10 +2,10 @@
 use Rattle.std.proofs.Common.{◌≡◌, ℕ, ◌+◌, ◌≤◌, List, ◌++◌, length, take, sym, ◌∙◌, ap, subst}
 use Rattle.std.proofs.Math.Seq.{take-add}
 use Rattle.std.proofs.lemmas.List.{take-append-le}
-use Rattle.cdc_outside.specs.Source.{Reads, file_of}
+use Rattle.cdc_outside.specs.Source.{ReadsFile, file_of}
 
 -- the front of a file and the piece behind it are a longer front
-pub next_piece : {file before now piece : List ℕ} {at read : ℕ} (rest : List ℕ) → read ≤ length piece → Reads file at piece read → before ≡ take at file
+pub next_piece : {file before now piece : List ℕ} {at read : ℕ} (rest : List ℕ) → read ≤ length piece → ReadsFile file at piece read → before ≡ take at file
     → now ≡ before ++ take read (piece ++ rest) → now ≡ take (at + read) file
 next_piece {file} {before} {now} {piece} {at} {read} rest within reads start pushed =
     pushed ∙ ap (λ xs. xs ++ take read (piece ++ rest)) start

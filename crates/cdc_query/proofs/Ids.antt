@@ -12,13 +12,13 @@ use Rattle.hex.specs.declared.error.FromHexError.{FromHexError}
 use Rattle.hex.proofs.HexLemmas.{decode_of-ok}
 use Rattle.cdc_base.specs.declared.xid.Xid.{Xid}
 use Rattle.cdc_query.specs.Grammar.{IsFormat, IsHex, IsWord, IsXidText, spaces}
-use Rattle.cdc_query.specs.Words.{before, behind_word, closed, format_of, id_of, if_last, if_small, is_number, number_of, quoted, since, unspaced, xid_behind, xid_from_gtrid, xid_of, xid_with}
+use Rattle.cdc_query.specs.Words.{before, behind_word, closed, xid_format_of, quoted_id_of, if_last, if_small, is_number, decimal_of, quoted, since, unspaced, xid_behind, xid_from_gtrid, xid_of, xid_with}
 use Rattle.cdc_query.proofs.Digits.{parts_of, test-from_digits, digits-from_test}
 use Rattle.cdc_query.proofs.Pieces.{IsSolid, StopsAt, before-lacks, front_of, lacks, since-lacks, split_of, stops-spaces, unspaced-front, unspaced-only_spaces}
 
 -- ---- what is spelled is read
 
-pub id-complete : (id digits : List ℕ) → IsHex id digits → id_of digits ≡ Some id
+pub id-complete : (id digits : List ℕ) → IsHex id digits → quoted_id_of digits ≡ Some id
 id-complete id digits h = rw (le-leb (length digits) 128 h.0, h.1) refl
 
 hex_lacks : (digits : List ℕ) → list_all is_hex_digit digits ≡ true → lacks 39 digits ≡ true
@@ -71,13 +71,13 @@ number_test : (digits : List ℕ) → IsNumeral 10 digits → length digits ≤ 
 number_test digits numeral few =
     and_from _ _ (and_from _ _ (lt-ltb 0 (length digits) numeral.0) (le-leb (length digits) 10 few)) (test-from_digits digits numeral.1)
 
-pub number-complete : (number : ℕ) (digits : List ℕ) → IsFormat number digits → number_of digits ≡ Some number
+pub number-complete : (number : ℕ) (digits : List ℕ) → IsFormat number digits → decimal_of digits ≡ Some number
 number-complete number digits h =
     let test = number_test digits h.0 h.1 in
     let small = lt-ltb (digits_value 10 digits) (2 ^ 32) h.2 in
     rw (test, small, h.3) refl
 
-pub format-complete : (number right : ℕ) (digits : List ℕ) → IsFormat number digits → format_of (digits ++ spaces right) ≡ Some number
+pub format-complete : (number right : ℕ) (digits : List ℕ) → IsFormat number digits → xid_format_of (digits ++ spaces right) ≡ Some number
 format-complete number right digits h =
     let free = digits_lack digits (test-from_digits digits h.0.1) in
     rw (before-lacks 32 digits (spaces right) free (stops-spaces right), since-lacks 32 digits (spaces right) free (stops-spaces right), unspaced-only_spaces right) (number-complete number digits h)
@@ -106,8 +106,8 @@ xid-complete xid right name (gtrid, bqual, format, (x, g, gap, isx, isg, eg), (y
     let one = quoted-complete x g second gap isx (lacks-hex xid.gtrid g isg) (solid-opening y _ isy) in
     let two = quoted-complete y b rest more isy (lacks-hex xid.bqual b isb) (solid-digits xid.format format (spaces right) isf) in
     let step : xid_of (name ++ spaces right) ≡ xid_behind g (quoted second) = ap xid_of layout ∙ ap xid_from_gtrid one in
-    let next : xid_behind g (quoted second) ≡ xid_with (id_of g) (id_of b) (format_of rest) = ap (xid_behind g) two in
-    let last : xid_with (id_of g) (id_of b) (format_of rest) ≡ Some xid =
+    let next : xid_behind g (quoted second) ≡ xid_with (quoted_id_of g) (quoted_id_of b) (xid_format_of rest) = ap (xid_behind g) two in
+    let last : xid_with (quoted_id_of g) (quoted_id_of b) (xid_format_of rest) ≡ Some xid =
     rw (id-complete xid.gtrid g isg, id-complete xid.bqual b isb, format-complete xid.format right format isf) refl in
     step ∙ next ∙ last
 
@@ -129,7 +129,7 @@ decoded : (r : Result (List ℕ) FromHexError) (id : List ℕ) → result_ok r �
 decoded (Ok bytes) id h = let same : bytes ≡ id = cc h in ap Ok same
 decoded (Err e) id h = cc h
 
-pub id-sound : (id digits : List ℕ) → id_of digits ≡ Some id → IsHex id digits
+pub id-sound : (id digits : List ℕ) → quoted_id_of digits ≡ Some id → IsHex id digits
 id-sound id digits h =
     elim (cases_Bool (nat_le (length digits) 128)) [
       | inl short ↦ (leb-true (length digits) 128 short, decoded (decode_of digits) id (sym (cond-true _ _ _ short) ∙ h))
@@ -188,7 +188,7 @@ small-sound value number h =
       | inr test ↦ let no : None ≡ Some number = sym (cond-false _ _ _ test) ∙ h in cc no
     ]
 
-number-sound : (number : ℕ) (digits : List ℕ) → number_of digits ≡ Some number → IsFormat number digits
+number-sound : (number : ℕ) (digits : List ℕ) → decimal_of digits ≡ Some number → IsFormat number digits
 number-sound number digits h =
     elim (cases_Bool (is_number digits)) [
       | inl test ↦
@@ -202,11 +202,11 @@ number-sound number digits h =
 pub only_spaces : (gapped : List ℕ) → unspaced gapped ≡ [] → (n : ℕ) × (gapped ≡ spaces n)
 only_spaces gapped h = let front = front_of gapped in (front.count, front.whole ∙ ap (λ (t : List ℕ). spaces front.count ++ t) h ∙ append-nil (spaces front.count))
 
-last-sound : (number : ℕ) (digits rest : List ℕ) → if_last (number_of digits) rest ≡ Some number → IsFormat number digits × (rest ≡ [])
+last-sound : (number : ℕ) (digits rest : List ℕ) → if_last (decimal_of digits) rest ≡ Some number → IsFormat number digits × (rest ≡ [])
 last-sound number digits [] h = (number-sound number digits h, refl)
 last-sound number digits (b ∷ rest) h = cc h
 
-pub format-sound : (number : ℕ) (text : List ℕ) → format_of text ≡ Some number → (digits : List ℕ) × (right : ℕ) × IsFormat number digits × (text ≡ digits ++ spaces right)
+pub format-sound : (number : ℕ) (text : List ℕ) → xid_format_of text ≡ Some number → (digits : List ℕ) × (right : ℕ) × IsFormat number digits × (text ≡ digits ++ spaces right)
 format-sound number text h =
     let split = split_of 32 text in
     let last = last-sound number (before 32 text) (behind_word text) h in
@@ -236,7 +236,7 @@ xid-sound text xid h =
           elim (option_cases (quoted one.1)) [
             | inl none ↦ let no : None ≡ Some xid = sym (ap (xid_behind one.0) none) ∙ behind in cc no
             | inr (two, second) ↦
-                let parts = with-sound xid (id_of one.0) (id_of two.0) (format_of two.1) (sym (ap (xid_behind one.0) second) ∙ behind) in
+                let parts = with-sound xid (quoted_id_of one.0) (quoted_id_of two.0) (xid_format_of two.1) (sym (ap (xid_behind one.0) second) ∙ behind) in
                 let (x, gap, isx, ex) = quoted-sound text one.0 one.1 first in
                 let (y, more, isy, ey) = quoted-sound one.1 two.0 two.1 second in
                 let (format, right, isf, ef) = format-sound xid.format two.1 parts.2 in

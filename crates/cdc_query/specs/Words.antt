@@ -30,8 +30,8 @@ abbrev pub behind_word : List ℕ → List ℕ
 behind_word text = unspaced (since 32 text)
 
 -- an id of at most 64 bytes, from two hexadecimal digits a byte
-abbrev pub id_of : List ℕ → Option (List ℕ)
-id_of digits = if nat_le (length digits) 128 then result_ok (decode_of digits) else None
+abbrev pub quoted_id_of : List ℕ → Option (List ℕ)
+quoted_id_of digits = if nat_le (length digits) 128 then result_ok (decode_of digits) else None
 
 -- what stands before a quote (39), where a comma (44) follows it; then spaces may stand
 abbrev pub closed : List ℕ → List ℕ → Option (List ℕ × List ℕ)
@@ -55,8 +55,8 @@ abbrev pub if_small : ℕ → Option ℕ
 if_small number = if nat_lt number (2 ^ 32) then Some number else None
 
 -- the number below 2 ^ 32 that 1 to 10 decimal digits spell
-abbrev pub number_of : List ℕ → Option ℕ
-number_of digits = if is_number digits then if_small (digits_value 10 digits) else None
+abbrev pub decimal_of : List ℕ → Option ℕ
+decimal_of digits = if is_number digits then if_small (digits_value 10 digits) else None
 
 -- nothing, where something follows
 abbrev pub if_last : Option ℕ → List ℕ → Option ℕ
@@ -64,8 +64,8 @@ if_last number [] = number
 if_last number (b ∷ rest) = None
 
 -- the format of a branch, the last word of a text
-abbrev pub format_of : List ℕ → Option ℕ
-format_of text = if_last (number_of (before 32 text)) (behind_word text)
+abbrev pub xid_format_of : List ℕ → Option ℕ
+xid_format_of text = if_last (decimal_of (before 32 text)) (behind_word text)
 
 -- the branch of these parts, where all three are there
 abbrev pub xid_with : Option (List ℕ) → Option (List ℕ) → Option ℕ → Option Xid
@@ -77,8 +77,9 @@ xid_with (Some gtrid) (Some bqual) (Some format) = Some (record { gtrid = gtrid;
 -- the branch with these digits of its gtrid, by what follows them
 abbrev pub xid_behind : List ℕ → Option (List ℕ × List ℕ) → Option Xid
 xid_behind gtrid None = None
-xid_behind gtrid (Some bqual) = xid_with (id_of gtrid) (id_of bqual.0) (format_of bqual.1)
+xid_behind gtrid (Some bqual) = xid_with (quoted_id_of gtrid) (quoted_id_of bqual.0) (xid_format_of bqual.1)
 
+-- the branch from its first quoted id and what stands behind it
 abbrev pub xid_from_gtrid : Option (List ℕ × List ℕ) → Option Xid
 xid_from_gtrid None = None
 xid_from_gtrid (Some gtrid) = xid_behind gtrid.0 (quoted gtrid.1)

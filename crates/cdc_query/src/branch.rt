@@ -4,14 +4,14 @@ ghost use Rattle.std.specs.Prelude.{◌≡◌, IsTrue};
 ghost use Rattle.std.specs.Char.{is_ascii_digit};
 ghost use Rattle.std.specs.List.{list_all};
 ghost use Rattle.std.specs.Str.Parse.{digits_value};
-ghost use Rattle.cdc_query.specs.Words.{format_of, id_of, is_number, number_of, xid_of};
+ghost use Rattle.cdc_query.specs.Words.{xid_format_of, quoted_id_of, is_number, decimal_of, xid_of};
 
 use crate::words::{cut_quoted, cut_word};
 use cdc_base::{GTRID_MAX, Gtrid, Xid, gtrid_of};
 
 // The id of these hexadecimal digits; none where they are no pairs of digits, or more than 128.
 fn id_from(digits: &[u8]) -> Option<Gtrid>
-    ensures { result ≡ id_of digits.now }
+    ensures { result ≡ quoted_id_of digits.now }
 {
     if digits.len() > 2 * GTRID_MAX {
         return None;
@@ -50,7 +50,7 @@ fn value_of(digits: &[u8]) -> u64
 
 // The number below 2^32 that 1 to 10 decimal digits spell.
 fn number_from(digits: &[u8]) -> Option<u32>
-    ensures { result ≡ number_of digits.now }
+    ensures { result ≡ decimal_of digits.now }
 {
     if is_decimal(digits) {
         u32::try_from(value_of(digits)).ok()
@@ -61,7 +61,7 @@ fn number_from(digits: &[u8]) -> Option<u32>
 
 // The format of a branch, which ends the text.
 fn format_from(text: &[u8]) -> Option<u32>
-    ensures { result ≡ format_of text.now }
+    ensures { result ≡ xid_format_of text.now }
 {
     let (digits, rest) = cut_word(text);
     if rest.is_empty() {

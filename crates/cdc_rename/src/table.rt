@@ -6,7 +6,7 @@ ghost use Rattle.cdc_event.specs.Table.{renamed};
 ghost use Rattle.cdc_rename.specs.Names.{IsTableMap, KeepsRow};
 
 use crate::names::Names;
-use cdc_base::{Blob, Buffer, Memory, Text};
+use cdc_base::{Blob, Memory, Text};
 use cdc_event::Body;
 use std::alloc::Global;
 
@@ -14,9 +14,7 @@ use std::alloc::Global;
 fn blob_of(alloc: Global, text: &Text) -> Result<Blob, Memory>
     ensures { IfOk result (λ blob. blob ≡ text.now) }
 {
-    let mut bytes = Buffer::with_room(alloc, text.bytes().len())?;
-    bytes.push(text.bytes())?;
-    bytes.freeze()
+    Blob::copy_of(alloc, text.bytes())
 }
 
 /// A table map under the names that its rule gives it, or the same table map where there is no rule for it.

@@ -1,16 +1,14 @@
 -- Reading one node more: what stays of the other nodes, and what is known of all.
-use Rattle.std.proofs.Common.{◌≡◌, ℕ, ◌+◌, ◌-◌, ◌<◌, ◌≤◌, ◌⊎◌, inl, inr, Bool, IsTrue, List, [], ◌∷◌, ◌++◌, length, map, take, get_or, Option, Some, None, min, arith, refl, sym, ap, ◌∙◌, subst, ⊎_elim}
-use Rattle.std.specs.List.{AllZip}
+use Rattle.std.proofs.Common.{◌≡◌, ℕ, ◌+◌, ◌-◌, ◌<◌, ◌≤◌, inl, inr, Bool, List, [], ◌∷◌, ◌++◌, length, map, take, get_or, Option, Some, None, arith, sym, ap, ◌∙◌, subst, ⊎_elim}
 use Rattle.std.proofs.Math.ListN.{set}
 use Rattle.std.proofs.Math.Seq.{map-set_same}
-use Rattle.std.proofs.lemmas.Bool.{cases_eq, cases_lt}
+use Rattle.std.proofs.lemmas.Bool.{cases_eq}
 use Rattle.std.proofs.lemmas.List.{map-set, get_or-map, get_or-set_same, get_or-set_other, take_more, length-map}
-use Rattle.cdc_outside.specs.Count.{Rose}
-use Rattle.cdc_model.specs.declared.start.NodeLog.{NodeLog}
+use Rattle.cdc_model.specs.declared.node_log.NodeLog.{NodeLog}
 use Rattle.cdc_top.specs.declared.logs.LogsError.{LogsError}
 use Rattle.cdc_top.specs.declared.logs.LogsError.TheVariants.{Read, Memory, NotYet}
-use Rattle.cdc_top.specs.Thin.{IsThinLog, IsNotThin, AreThinLogs}
-use Rattle.cdc_top.specs.Logs.{files_of, IsThinAt, IsLeastNotThin, or_node, IsStep, HasStepCause, RoseAt, NoneFell, HasCause, IsReadTo}
+use Rattle.cdc_top.specs.Thin.{IsThinLog, AreThinLogs}
+use Rattle.cdc_top.specs.Logs.{IsThinAt, IsReadStep, HasStepCause, RoseAt, NoneFell, HasCause, IsReadTo}
 
 -- a node that was read holds what it held
 pub held_kept : {S : Type 0} (held : S → List (List ℕ)) (items : List S) (place : ℕ) (old new : S) → old ≡ get_or items place old → held new ≡ held old
@@ -60,7 +58,7 @@ all_zip_push (node ∷ nodes) (other ∷ logs) files log all thin = (all.0, all_
 
 -- one node more
 pub step_kept : (nodes : List (List (List ℕ))) (count : ℕ) (files : List (List ℕ)) (before logs : List NodeLog) (not_yet now : Option ℕ) → count < length nodes → get_or nodes count [] ≡ files
-    → IsReadTo nodes count before not_yet → IsStep files (count + 1) before logs not_yet now → IsReadTo nodes (count + 1) logs now
+    → IsReadTo nodes count before not_yet → IsReadStep files (count + 1) before logs not_yet now → IsReadTo nodes (count + 1) logs now
 step_kept nodes count files before logs None now within here known (inl step) =
     let at : count + 1 - 1 ≡ count = omega arith in
     let log = step.0 in

@@ -1,6 +1,6 @@
 -- There are no more transactions than entries.
-use Rattle.std.proofs.Common.{◌≡◌, ℕ, ◌+◌, ◌*◌, ◌≤◌, Bool, true, false, cond, List, [], ◌∷◌, ◌++◌, length, map, filter, reverse, Option, Some, None, is_none, arith, refl, length-append}
-use Rattle.std.specs.List.{AllByRecursion, flat_map, enumerate_from, fold, sum_by}
+use Rattle.std.proofs.Common.{◌≡◌, ℕ, ◌+◌, ◌*◌, ◌≤◌, Bool, true, false, cond, List, [], ◌∷◌, length, filter, Option, Some, None, is_none, arith, refl, length-append}
+use Rattle.std.specs.List.{AllByRecursion, flat_map, enumerate_from, fold}
 use Rattle.std.proofs.lemmas.List.{length-map, length-reverse}
 use Rattle.std.proofs.lemmas.List.Sums.{sum_by-cons}
 use Rattle.std.specs.declared.cmp.Ordering.{Ordering}
@@ -10,12 +10,12 @@ use Rattle.cdc_base.specs.declared.key.Key.TheVariants.{Shared}
 use Rattle.cdc_base.specs.Key.{key_order}
 use Rattle.cdc_model.specs.declared.entry.EntryKind.{EntryKind}
 use Rattle.cdc_model.specs.declared.entry.EntryKind.TheVariants.{Prepare, OnePhase, Commit, Rollback, Plain, Beat}
-use Rattle.cdc_model.specs.declared.start.NodeLog.{NodeLog}
+use Rattle.cdc_model.specs.declared.node_log.NodeLog.{NodeLog}
 use Rattle.cdc_model.specs.Records.{LogEntry, CommittedBranch, OpenBranch, Start}
 use Rattle.cdc_model.specs.Start.{find_open, next, left}
 use Rattle.cdc_model.specs.Soundness.{entry_fault, sound_entries, sound_history}
-use Rattle.cdc_model.specs.Branch.{committed, branch_of, begun, is_new, is_settled}
-use Rattle.cdc_model.specs.Transaction.{node_branches, all_branches, entries_in, placed, put, add_settled, settled_keys, transactions_of, ordered_transactions, logs_low_water_mark}
+use Rattle.cdc_model.specs.Branch.{committed, branch_of, begun_branches, is_new, is_settled}
+use Rattle.cdc_model.specs.Transaction.{node_branches, all_branches, entries_in, placed_key, put, add_settled, settled_keys, transactions_of, ordered_transactions, logs_low_water_mark}
 
 filtered_by : {X : Type 0} (kept : Bool) (x : X) (xs ys : List X) → length ys ≤ length xs → length (cond kept (x ∷ ys) ys) ≤ length (x ∷ xs)
 filtered_by true x xs ys less = omega (arith, less)
@@ -37,10 +37,10 @@ one_branch node (Rollback xid) start = omega arith
 one_branch node (Plain rows seconds) start = omega arith
 one_branch node (Beat timestamp) start = omega arith
 
-few_begun : (start : Start) (node : ℕ) (history : List LogEntry) → length (begun start node history) ≤ length history
+few_begun : (start : Start) (node : ℕ) (history : List LogEntry) → length (begun_branches start node history) ≤ length history
 few_begun start node [] = omega arith
 few_begun start node (entry ∷ earlier) =
-    omega (arith, length-append (begun start node earlier) (branch_of node entry.kind (left start earlier)), few_begun start node earlier, one_branch node entry.kind (left start earlier))
+    omega (arith, length-append (begun_branches start node earlier) (branch_of node entry.kind (left start earlier)), few_begun start node earlier, one_branch node entry.kind (left start earlier))
 
 few_by : (sound : Bool) (entry : LogEntry) (front later : List LogEntry) → length front ≤ length later → length (cond sound (entry ∷ front) []) ≤ length (entry ∷ later)
 few_by true entry front later less = omega (arith, less)
@@ -54,7 +54,7 @@ few_sound start (entry ∷ later) =
 few_in_node : (last : Key) (node : ℕ × NodeLog) → length (node_branches last node) ≤ length node.1.entries
 few_in_node last node =
     let log = node.1 in
-    let all = begun log.start node.0 (sound_history log) in
+    let all = begun_branches log.start node.0 (sound_history log) in
     omega (arith, length-map (filter (is_new last log.start) all) (λ b. b.1), few_filtered (is_new last log.start) all, few_begun log.start node.0 (sound_history log), length-reverse (sound_entries log.start log.entries), few_sound log.start log.entries)
 
 few_in_all : (last : Key) (number : ℕ) (logs : List NodeLog) → length (flat_map (node_branches last) (enumerate_from number logs)) ≤ entries_in logs
@@ -62,7 +62,7 @@ few_in_all last number [] = omega arith
 few_in_all last number (log ∷ logs) =
     omega (arith, length-append (node_branches last (number, log)) (flat_map (node_branches last) (enumerate_from (number + 1) logs)), few_in_node last (number, log), few_in_all last (number + 1) logs, sum_by-cons (λ (l : NodeLog). length l.entries) log logs)
 
-placed_few : (order : Ordering) (key first : Key) (rest later : List Key) → length later ≤ length rest + 1 → length (placed order key first rest later) ≤ length rest + 2
+placed_few : (order : Ordering) (key first : Key) (rest later : List Key) → length later ≤ length rest + 1 → length (placed_key order key first rest later) ≤ length rest + 2
 placed_few Less key first rest later less = omega arith
 placed_few Equal key first rest later less = omega arith
 placed_few Greater key first rest later less = omega (arith, less)

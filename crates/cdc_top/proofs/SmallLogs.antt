@@ -1,25 +1,24 @@
 -- Small logs give small transactions.
-use Rattle.std.proofs.Common.{◌≡◌, ℕ, ◌+◌, ◌≤◌, Bool, true, false, not, cond, List, [], ◌∷◌, ◌++◌, length, filter, map, reverse, Option, Some, None, refl, arith, is_none}
+use Rattle.std.proofs.Common.{◌≡◌, ℕ, ◌+◌, ◌≤◌, Bool, true, false, not, cond, List, [], ◌∷◌, ◌++◌, length, filter, map, reverse, Option, Some, None, is_none}
 use Rattle.std.specs.List.{AllByRecursion, flat_map, enumerate_from, fold}
 use Rattle.std.proofs.lemmas.Grind.{reverse_onto}
 use Rattle.std.specs.Ordering.{is_lt}
 use Rattle.std.specs.declared.cmp.Ordering.{Ordering}
 use Rattle.std.specs.declared.cmp.Ordering.TheVariants.{Less, Equal, Greater}
 use Rattle.cdc_base.specs.declared.key.Key.{Key}
-use Rattle.cdc_base.specs.declared.key.Key.TheVariants.{Shared, Plain as PlainKey}
+use Rattle.cdc_base.specs.declared.key.Key.TheVariants.{Shared}
 use Rattle.cdc_base.specs.declared.xid.Xid.{Xid}
 use Rattle.cdc_base.specs.Key.{key_order}
 use Rattle.cdc_model.specs.declared.entry.EntryKind.{EntryKind}
 use Rattle.cdc_model.specs.declared.entry.EntryKind.TheVariants.{Prepare, OnePhase, Commit, Rollback, Plain, Beat}
-use Rattle.cdc_model.specs.declared.fault.SortFault.{SortFault}
-use Rattle.cdc_model.specs.declared.start.NodeLog.{NodeLog}
-use Rattle.cdc_model.specs.Records.{LogEntry, CommittedBranch, OpenBranch, Transaction, Start}
-use Rattle.cdc_model.specs.Start.{same_xid, xid_order, find_open, without, enter, opened_by, next, left}
+use Rattle.cdc_model.specs.declared.node_log.NodeLog.{NodeLog}
+use Rattle.cdc_model.specs.Records.{LogEntry, CommittedBranch, OpenBranch, Start}
+use Rattle.cdc_base.specs.Xid.{same_xid, xid_order}
+use Rattle.cdc_model.specs.Start.{find_open, without, enter, opened_by, next, left}
 use Rattle.cdc_model.specs.Soundness.{entry_fault, sound_entries, sound_history}
-use Rattle.cdc_model.specs.Branch.{Begun, committed, branch_of, begun, is_new, new_branches, committed_branches, is_settled}
-use Rattle.cdc_model.specs.Transaction.{node_branches, all_branches, placed, put, add_settled, settled_keys, has_key, transaction_of, transactions_of, ordered_transactions, logs_low_water_mark}
+use Rattle.cdc_model.specs.Branch.{Begun, committed, branch_of, begun_branches, is_new, is_settled}
+use Rattle.cdc_model.specs.Transaction.{node_branches, all_branches, placed_key, put, add_settled, settled_keys, has_key, transactions_of, ordered_transactions, logs_low_water_mark}
 use Rattle.cdc_writer.specs.Short.{HasShortId}
-use Rattle.cdc_writer.specs.Short.{HasNoRows as BranchHasNoRows}
 use Rattle.cdc_top.specs.Small.{IsSmallKind, IsSmallEntry, IsSmallOpen, IsSmallBranch, IsSmallTransaction, IsSmallLog}
 
 -- ---- lists of which each item has a property
@@ -114,10 +113,10 @@ branch_small node (Rollback xid) start small o = tt
 branch_small node (Plain rows seconds) start small o = (record { rows = small; key = tt }, tt)
 branch_small node (Beat timestamp) start small o = tt
 
-begun_small : (start : Start) (node : ℕ) (history : List LogEntry) → AllByRecursion IsSmallOpen start.opened → AllByRecursion IsSmallEntry history → AllByRecursion IsSmallBegun (begun start node history)
+begun_small : (start : Start) (node : ℕ) (history : List LogEntry) → AllByRecursion IsSmallOpen start.opened → AllByRecursion IsSmallEntry history → AllByRecursion IsSmallBegun (begun_branches start node history)
 begun_small start node [] o a = tt
 begun_small start node (entry ∷ earlier) o a =
-    all_append IsSmallBegun (begun start node earlier) (branch_of node entry.kind (left start earlier)) (begun_small start node earlier o a.1) (branch_small node entry.kind (left start earlier) a.0 (left_small start earlier o a.1))
+    all_append IsSmallBegun (begun_branches start node earlier) (branch_of node entry.kind (left start earlier)) (begun_small start node earlier o a.1) (branch_small node entry.kind (left start earlier) a.0 (left_small start earlier o a.1))
 
 sound_by : (P : LogEntry → Type 0) (sound : Bool) (entry : LogEntry) (later : List LogEntry) → P entry → AllByRecursion P later → AllByRecursion P (cond sound (entry ∷ later) [])
 sound_by P true entry later p a = (p, a)
@@ -133,8 +132,8 @@ node_small last node small =
     let log = node.1 in
     let opened : AllByRecursion IsSmallOpen log.start.opened = rw small.opened tt in
     let history = all_reverse IsSmallEntry (sound_entries log.start log.entries) (sound_small log.start log.entries small.entries) in
-    all_map IsSmallBegun IsSmallBranch (λ b. b.1) (λ b h. h) (filter (is_new last log.start) (begun log.start node.0 (sound_history log)))
-    (all_filter IsSmallBegun (is_new last log.start) (begun log.start node.0 (sound_history log)) (begun_small log.start node.0 (sound_history log) opened history))
+    all_map IsSmallBegun IsSmallBranch (λ b. b.1) (λ b h. h) (filter (is_new last log.start) (begun_branches log.start node.0 (sound_history log)))
+    (all_filter IsSmallBegun (is_new last log.start) (begun_branches log.start node.0 (sound_history log)) (begun_small log.start node.0 (sound_history log) opened history))
 
 branches_small : (last : Key) (logs : List NodeLog) → AllByRecursion IsSmallLog logs → AllByRecursion IsSmallBranch (all_branches last logs)
 branches_small last logs a =
@@ -143,7 +142,7 @@ branches_small last logs a =
 -- ---- keys and transactions
 
 placed_short : (order : Ordering) (key first : Key) (rest later : List Key) → HasShortId key → AllByRecursion HasShortId (first ∷ rest) → AllByRecursion HasShortId later
-    → AllByRecursion HasShortId (placed order key first rest later)
+    → AllByRecursion HasShortId (placed_key order key first rest later)
 placed_short Less key first rest later k a others = (k, a)
 placed_short Equal key first rest later k a others = a
 placed_short Greater key first rest later k a others = (a.0, others)

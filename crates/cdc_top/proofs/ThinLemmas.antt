@@ -5,7 +5,7 @@ use Rattle.std.proofs.lemmas.List.{length-take}
 use Rattle.cdc_event.specs.declared.event.Event.{Event}
 use Rattle.cdc_event.specs.Event.{magic, event_bytes}
 use Rattle.cdc_event.proofs.Bodies.{test_cases}
-use Rattle.cdc_model.specs.declared.start.NodeLog.{NodeLog}
+use Rattle.cdc_model.specs.declared.node_log.NodeLog.{NodeLog}
 use Rattle.cdc_model.specs.Records.{LogEntry}
 use Rattle.cdc_model.specs.Start.{beginning}
 use Rattle.cdc_model.specs.Soundness.{sound_entries}

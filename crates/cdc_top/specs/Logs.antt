@@ -1,7 +1,7 @@
 -- Reading the logs of all nodes.
-use Rattle.std.specs.Prelude.{◌≡◌, ℕ, ◌+◌, ◌-◌, ◌<◌, ◌≤◌, ◌⊎◌, Bool, IsTrue, List, [], ◌∷◌, ◌++◌, length, take, slice_index, slice_index_or, Option, Some, None}
+use Rattle.std.specs.Prelude.{◌≡◌, ℕ, ◌-◌, ◌<◌, ◌≤◌, ◌⊎◌, Bool, IsTrue, List, [], ◌∷◌, ◌++◌, length, take, slice_index, slice_index_or, Option, Some, None}
 use Rattle.cdc_outside.specs.Count.{Rose}
-use Rattle.cdc_model.specs.declared.start.NodeLog.{NodeLog}
+use Rattle.cdc_model.specs.declared.node_log.NodeLog.{NodeLog}
 use Rattle.cdc_top.specs.declared.logs.LogsError.{LogsError}
 use Rattle.cdc_top.specs.declared.logs.LogsError.TheVariants.{Read, Memory, NotYet}
 use Rattle.cdc_top.specs.Thin.{IsThinFile, IsThinLog, IsNotThin, AreThinLogs}
@@ -11,18 +11,18 @@ abbrev pub IsRead : NodeLog → Type 0
 IsRead log = (file : List ℕ) × IsThinFile file log
 
 -- the files of a node, counted from 1
-abbrev pub files_of : List (List (List ℕ)) → ℕ → List (List ℕ)
-files_of nodes node = slice_index_or nodes (node - 1) []
+abbrev pub log_files_of : List (List (List ℕ)) → ℕ → List (List ℕ)
+log_files_of nodes node = slice_index_or nodes (node - 1) []
 
 -- a node whose log is in the thin form
 abbrev pub IsThinAt : List (List (List ℕ)) → ℕ → Type 0
-IsThinAt nodes node = (log : NodeLog) × IsThinLog (files_of nodes node) log
+IsThinAt nodes node = (log : NodeLog) × IsThinLog (log_files_of nodes node) log
 
 -- the least node whose log isn't in the thin form
 pub record IsLeastNotThin (nodes : List (List (List ℕ))) (node : ℕ) : Type 0 where
   pub first : 1 ≤ node
   pub last : node ≤ length nodes
-  pub not_thin : IsNotThin (files_of nodes node)
+  pub not_thin : IsNotThin (log_files_of nodes node)
   pub lesser : (other : ℕ) → 1 ≤ other → other < node → IsThinAt nodes other
 
 -- the first of two nodes that there is
@@ -31,8 +31,8 @@ or_node (Some least) node = Some least
 or_node None node = Some node
 
 -- one node more: its log is read behind the others, or it is out of form
-abbrev pub IsStep : List (List ℕ) → ℕ → List NodeLog → List NodeLog → Option ℕ → Option ℕ → Type 0
-IsStep files node before logs not_yet now =
+abbrev pub IsReadStep : List (List ℕ) → ℕ → List NodeLog → List NodeLog → Option ℕ → Option ℕ → Type 0
+IsReadStep files node before logs not_yet now =
     ((log : NodeLog) × IsThinLog files log × (logs ≡ before ++ log ∷ []) × (now ≡ not_yet))
     ⊎ (IsNotThin files × (logs ≡ before) × (now ≡ or_node not_yet node))
 

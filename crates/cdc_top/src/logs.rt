@@ -1,12 +1,12 @@
 //! The logs of all nodes, read from their sources.
 
-ghost use Rattle.std.specs.Prelude.{◌≡◌, ℕ, ◌+◌, ◌≤◌, ◌++◌, ◌∷◌, IsTrue, length, map, slice_index, IfOk, IfErr, IfSome, IfNone, IsErrOf};
+ghost use Rattle.std.specs.Prelude.{◌≡◌, ◌+◌, ◌≤◌, IsTrue, length, map, IfOk, IfErr, IfSome, IfNone};
 ghost use Rattle.std.specs.List.{AllByRecursion};
 ghost use Rattle.cdc_outside.specs.Count.{Rose};
 ghost use Rattle.cdc_outside.specs.declared.whole.ReadWholeError.TheVariants.{Failed as SourceFailed};
 ghost use Rattle.cdc_top.specs.declared.logs.LogsError.TheVariants.{Memory as NoMemory};
 ghost use Rattle.cdc_top.specs.Thin.{IsThinLog, IsNotThin, AreThinLogs};
-ghost use Rattle.cdc_top.specs.Logs.{IsRead, IsStep, HasStepCause, HasCause, NoneFell};
+ghost use Rattle.cdc_top.specs.Logs.{IsRead, IsReadStep, HasStepCause, HasCause, NoneFell};
 
 use crate::thin::read_thin;
 use cdc_base::{Items, Memory};
@@ -69,7 +69,7 @@ fn read_next<S: Source>(
     logs: &mut LogList,
     not_yet: Option<u32>,
 ) -> Result<Option<u32>, LogsError>
-    ensures step { IsTrue S.tells → IfOk result (IsStep (S.held source.old) node logs.old logs.new not_yet) }
+    ensures step { IsTrue S.tells → IfOk result (IsReadStep (S.held source.old) node logs.old logs.new not_yet) }
     ensures read { AllByRecursion IsRead logs.old → IfOk result (λ _. AllByRecursion IsRead logs.new) }
     ensures many { IfOk result (λ _. length logs.new ≤ length logs.old + 1) }
     ensures err { IfErr result (HasStepCause node (S.faults source.old) (S.faults source.new)) }

@@ -1,7 +1,7 @@
 //! A node's log in the thin form.
 
 ghost use Rattle.std.specs.Prelude.{◌≡◌, IfOk, IfSome, IfNone, MatchOption};
-ghost use Rattle.cdc_model.specs.declared.start.NodeLog.{NodeLog};
+ghost use Rattle.cdc_model.specs.declared.node_log.NodeLog.{NodeLog};
 ghost use Rattle.cdc_top.specs.Thin.{IsThinFile, ThinFormIsUnique};
 ghost use Rattle.cdc_top.specs.Thin as form;
 ghost use Rattle.cdc_top.specs.ThinReading.{HasEntries, HasNoPairs};
@@ -9,7 +9,8 @@ ghost use Rattle.cdc_top.specs.ThinReading.{HasEntries, HasNoPairs};
 use crate::events::events_in;
 use crate::pairs::{EVENTS_MAX, file_entries};
 use cdc_base::{Blob, Memory};
-use cdc_model::{EntryList, NodeLog, StartingPoint, sound_count};
+use cdc_model::{EntryList, NodeLog, StartingPoint};
+use cdc_plain::sound_count;
 use std::alloc::Global;
 
 /// A log from its beginning.

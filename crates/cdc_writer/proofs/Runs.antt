@@ -10,7 +10,7 @@ use Rattle.cdc_model.specs.Layout.{HasRoom, begins_file, next_file}
 use Rattle.cdc_model.specs.Records.{Transaction, OutputUnit}
 use Rattle.cdc_model.specs.Print.{digits, row_length, printed_events, printed_bytes, printed_length}
 use Rattle.cdc_model.specs.Output.{file_head, file_name, rotate_event}
-use Rattle.cdc_model.specs.Unit.{print_place, unit_of, IsStepFrom, UnitsAreSteps}
+use Rattle.cdc_model.specs.Unit.{print_place, unit_of, IsOutputStepFrom, UnitsAreSteps}
 use Rattle.cdc_writer.specs.declared.spot.Spot.{Spot}
 use Rattle.cdc_writer.specs.Events.{IsPrintable}
 use Rattle.cdc_writer.specs.Spot.{spot_of}
@@ -135,5 +135,5 @@ unit_is rules rotation size txn before spot run unit length_is spot_is run_is is
     ∙ ap (λ (s : Spot). unit_at txn before s (run_at rules txn s)) (spot_is ∙ ap (spot_of before rotation) length_is)
 
 pub unit_steps : (rules : List Rename) (rotation : ℕ) (txn : Transaction) (before : Layout) (unit : OutputUnit) → UnitsAreSteps
-    → unit ≡ unit_of rules rotation txn before → IsStepFrom rules rotation txn before unit
-unit_steps rules rotation txn before unit law is = subst (IsStepFrom rules rotation txn before) (sym is) (law rules rotation txn before)
+    → unit ≡ unit_of rules rotation txn before → IsOutputStepFrom rules rotation txn before unit
+unit_steps rules rotation txn before unit law is = subst (IsOutputStepFrom rules rotation txn before) (sym is) (law rules rotation txn before)

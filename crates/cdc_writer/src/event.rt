@@ -15,9 +15,7 @@ const SERVER: u32 = 1;
 pub(crate) fn blob_of(alloc: Global, bytes: &[u8]) -> Result<Blob, Memory>
     ensures { IfOk result (λ blob. blob ≡ bytes.now) }
 {
-    let mut copy = Buffer::with_room(alloc, bytes.len())?;
-    copy.push(bytes)?;
-    copy.freeze()
+    Blob::copy_of(alloc, bytes)
 }
 
 /// Appends an event that stands at `place` of its file, and answers the place behind it.

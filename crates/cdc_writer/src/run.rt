@@ -4,7 +4,7 @@ ghost use Rattle.std.specs.Prelude.{◌≡◌, ◌+◌, ◌<◌, ◌≤◌, ◌^
 ghost use Rattle.cdc_model.specs.Layout.{IsRotation, HasRoom, begins_file, next_file};
 ghost use Rattle.cdc_model.specs.Print.{printed_length};
 ghost use Rattle.cdc_model.specs.Output.{file_head, rotate_event};
-ghost use Rattle.cdc_model.specs.Unit.{unit_of, IsStepFrom};
+ghost use Rattle.cdc_model.specs.Unit.{unit_of, IsOutputStepFrom};
 ghost use Rattle.cdc_writer.specs.Refusal.{too_large, HasPrintCause};
 ghost use Rattle.cdc_writer.specs.Run.{run_at, unit_at};
 
@@ -123,7 +123,7 @@ pub fn unit(
     requires rotation { IsRotation rotation }
     requires before { HasRoom before.now }
     ensures ok { IfOk result (λ unit. unit ≡ unit_of names.now rotation txn.now before.now) }
-    ensures step { IfOk result (λ unit. IsStepFrom names.now rotation txn.now before.now unit) }
+    ensures step { IfOk result (λ unit. IsOutputStepFrom names.now rotation txn.now before.now unit) }
     ensures refused { IfErr result (HasPrintCause names.now txn.now) }
     ensures too_large { (result ≡ Err (too_large names.now txn.now)) ↔ (2 ^ 28 < printed_length names.now txn.now) }
 {

@@ -1,7 +1,7 @@
 //! What the tests read.
 
 ghost use Rattle.std.specs.Prelude.{◌≡◌, length, IfOk};
-ghost use Rattle.cdc_memory.specs.Source.{files_of, pure_files_of};
+ghost use Rattle.cdc_memory.specs.Source.{held_files, pure_held_files};
 
 use cdc_base::{Blob, Buffer, Memory};
 use cdc_memory::{MemSource, PureSource};
@@ -21,7 +21,7 @@ pub fn pattern(alloc: Global, bytes: u32) -> Result<Blob, Memory>
 
 /// A source of one file of so many bytes, whose listed calls fail.
 pub fn one_file(alloc: Global, bytes: u32, fails: &[u64]) -> Result<MemSource, Memory>
-    ensures { IfOk result (λ source. length (files_of source) ≡ 1) }
+    ensures { IfOk result (λ source. length (held_files source) ≡ 1) }
 {
     let file = pattern(alloc, bytes)?;
     MemSource::new(alloc, &[file], fails)
@@ -29,7 +29,7 @@ pub fn one_file(alloc: Global, bytes: u32, fails: &[u64]) -> Result<MemSource, M
 
 /// A source of two files that never fails.
 pub fn two_files(alloc: Global, first: u32, second: u32) -> Result<PureSource, Memory>
-    ensures { IfOk result (λ source. length (pure_files_of source) ≡ 2) }
+    ensures { IfOk result (λ source. length (pure_held_files source) ≡ 2) }
 {
     let first = pattern(alloc, first)?;
     let second = pattern(alloc, second)?;

@@ -1,7 +1,7 @@
 //! Sources in memory.
 
 ghost use Rattle.std.specs.Prelude.{◌≡◌, ◌≤◌, length};
-ghost use Rattle.cdc_memory.specs.Source.{files_of};
+ghost use Rattle.cdc_memory.specs.Source.{held_files};
 
 use crate::pattern::{ask, one_file, two_files};
 use cdc_base::Place;
@@ -73,8 +73,8 @@ fn lowest_is_the_least_place_asked_for(rt: HostRuntime) -> Result<(), Fail> {
 
 // Whether a call of the first file succeeds: of `files`, `length` or `read_at`.
 fn succeeds(source: &mut MemSource, which: u8) -> bool
-    requires { 1 ≤ length (files_of source.old) }
-    ensures { files_of source.new ≡ files_of source.old }
+    requires { 1 ≤ length (held_files source.old) }
+    ensures { held_files source.new ≡ held_files source.old }
 {
     match which {
         0 => source.files().is_ok(),

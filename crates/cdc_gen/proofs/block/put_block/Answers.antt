@@ -3,7 +3,7 @@ use Rattle.std.specs.List.{range_with_len, flat_map}
 use Rattle.std.proofs.lemmas.Result.{on_ok_weaker}
 use Rattle.cdc_gen.specs.declared.step.StepKind.TheVariants.{Prepare, Commit}
 use Rattle.cdc_gen.specs.Draws.{state_after, drawn_from, draw}
-use Rattle.cdc_gen.specs.Script.{planned, steps_of, block_size}
+use Rattle.cdc_gen.specs.Script.{planned, script_steps, block_size}
 use Rattle.cdc_gen.proofs.Taken.{one_more_state}
 use Rattle.cdc_gen.proofs.Steps.{growing_length, steps_few, always, block_done}
 use Rattle.cdc_gen.proofs.block.put_block.Goals as goal
@@ -38,9 +38,9 @@ returns-clause-ok c seed nodes steps few start same =
     let whole_few : length whole ≤ 4 = omega (arith, ap length c.as_slice-whole.ensures.value, c.in_ok-plan.ensures.size) in
     let front_few : length front ≤ 4 = omega (arith, ap length c.split_at.ensures.front, length-take (c.draw.result % size) whole, whole_few) in
     let back_few : length back ≤ 4 = omega (arith, ap length c.split_at.ensures.back, length-drop (c.draw.result % size) whole, whole_few) in
-    let one_steps = flat_map (steps_of nodes Prepare) whole in
-    let two_steps = flat_map (steps_of nodes Commit) back in
-    let three_steps = flat_map (steps_of nodes Commit) front in
+    let one_steps = flat_map (script_steps nodes Prepare) whole in
+    let two_steps = flat_map (script_steps nodes Commit) back in
+    let three_steps = flat_map (script_steps nodes Commit) front in
     let one_few = steps_few nodes Prepare whole in
     let two_few = steps_few nodes Commit back in
     let three_few = steps_few nodes Commit front in

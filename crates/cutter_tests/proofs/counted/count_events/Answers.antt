@@ -1,5 +1,5 @@
 use Rattle.std.proofs.Common.{◌≡◌, ◌+◌, [], ◌∷◌, ◌++◌, refl, sym, subst, arith, length, length-append, Some, None, inl, inr}
-use Rattle.cdc_cutter.specs.Cutting.{Answers, placed}
+use Rattle.cdc_cutter.specs.Cutting.{Answers, placed_event}
 use Rattle.cutter_tests.proofs.counted.count_events.Goals as goal
 
 pub loop-count-init : goal.loop-count-init
@@ -17,7 +17,7 @@ returns-in-Need c =
 pub loop-count-preserved : goal.loop-count-preserved
 loop-count-preserved c =
     let inv = c.loop-count.invariant in
-    let p = placed c.in-Event.at c.in-Event.end c.in-Event.event c.in-Event.checksum in
+    let p = placed_event c.in-Event.at c.in-Event.end c.in-Event.event c.in-Event.checksum in
     let a = subst (Answers 0 0 c.args.file.now inv.0 c.loop-count.cutter c.next.new.self) c.in-Event.is (c.in_ok-next.ensures.answer 0 0 c.args.file.now inv.0 inv.2) in
     let before : length inv.0 ≡ c.loop-count.count = inv.1 in
     let size : length (inv.0 ++ p ∷ []) ≡ length inv.0 + length (p ∷ []) = length-append inv.0 (p ∷ []) in

@@ -1,0 +1,2 @@
+mod KeptKeys
+mod Removal
