@@ -14,6 +14,7 @@ mod memory;
 mod place;
 mod rename;
 mod text;
+mod user;
 mod xid;
 
 pub use blob::Blob;
@@ -25,4 +26,5 @@ pub use memory::Memory;
 pub use place::Place;
 pub use rename::{Rename, RenameList};
 pub use text::{Text, TextList};
+pub use user::{User, UserList};
 pub use xid::Xid;
