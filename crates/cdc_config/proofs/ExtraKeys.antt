@@ -8,7 +8,7 @@ use Rattle.cdc_config.specs.declared.command.Refusal.TheVariants as refusal
 use Rattle.cdc_config.specs.declared.judging.Extras.{Extras}
 use Rattle.cdc_config.specs.declared.misfit.Misfit.{Misfit}
 use Rattle.cdc_config.specs.declared.plan.SplitPlan.{SplitPlan}
-use Rattle.cdc_config.specs.declared.plan.User.{User}
+use Rattle.cdc_base.specs.declared.user.User.{User}
 use Rattle.cdc_config.specs.declared.shape.Shape.TheVariants as shape
 use Rattle.cdc_config.specs.Filing.{AreNamesIn, GivesNames}
 use Rattle.cdc_config.specs.Judging.{AreExtras, extra_keys, split_given}

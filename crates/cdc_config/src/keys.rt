@@ -12,10 +12,10 @@ ghost use Rattle.cdc_config.specs.Tree.{GivesPart};
 
 use crate::misfit::Misfit;
 use crate::parts::{OutTable, path_at};
-use crate::plan::{SplitPlan, TextLists, User, UserList};
+use crate::plan::{SplitPlan, TextLists};
 use crate::shape::Shape;
 use crate::tree::{are_distinct, array_of, is_among, value_at, whole_number};
-use cdc_base::{Items, Memory, Rename, RenameList, Text, TextList};
+use cdc_base::{Items, Memory, Rename, RenameList, Text, TextList, User, UserList};
 use std::alloc::Global;
 use toml::Value;
 

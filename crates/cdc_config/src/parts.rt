@@ -8,10 +8,9 @@ ghost use Rattle.cdc_config.specs.Tree as tree;
 ghost use Rattle.cdc_config.specs.Tree.{GivesPart};
 
 use crate::misfit::Misfit;
-use crate::plan::User;
 use crate::shape::Shape;
 use crate::tree::{Part, array_of, sized_text, value_at};
-use cdc_base::{Rename, Text, TextList};
+use cdc_base::{Rename, Text, TextList, User};
 use std::alloc::Global;
 use toml::Value;
 
