@@ -13,7 +13,7 @@ pub(crate) fn bytes_2(number: u16) -> [u8; 2]
 
 /// The four bytes of a number.
 #[tactic(auto, using(crate::proofs::Numbers::low_first_4))]
-pub(crate) fn bytes_4(number: u32) -> [u8; 4]
+pub fn bytes_4(number: u32) -> [u8; 4]
     ensures { result ≡ low_first 4 number }
 {
     number.to_le_bytes()
@@ -47,7 +47,7 @@ pub(crate) fn number_2(bytes: &[u8]) -> u16
 
 /// The number that four bytes spell.
 #[tactic(auto, using(crate::proofs::Numbers::number_of_4))]
-pub(crate) fn number_4(bytes: &[u8]) -> u32
+pub fn number_4(bytes: &[u8]) -> u32
     requires { length bytes.now ≡ 4 }
     ensures { result ≡ number_of bytes.now }
 {

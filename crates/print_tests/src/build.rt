@@ -8,7 +8,7 @@ ghost use Rattle.cdc_rename.specs.Names.{IsName, IsRule, IsTableMap};
 
 use cdc_base::{Blob, Buffer, Items, Key, Memory, Rename, Text, gtrid_of};
 use cdc_event::Body;
-use cdc_model::{Branch, BranchList, Layout, RowList, Txn};
+use cdc_model::{Branch, BranchList, Layout, RowList, RowRun, Txn};
 use cdc_rename::Names;
 use cdc_writer::{PrintError, print};
 use std::alloc::Global;
@@ -66,22 +66,18 @@ pub fn map_of(alloc: Global, db: &[u8], name: &[u8], rest: &[u8]) -> Result<Body
 }
 
 /// One row more.
-pub fn add_row(rows: &mut RowList, row: (u8, Body)) -> Result<(), Memory>
-    requires rows { AllByRecursion IsRow rows.old }
-    requires row { IsRow row }
-    ensures { AllByRecursion IsRow rows.new }
+pub fn add_row(rows: &mut RowRun, row: (u8, Body)) -> Result<(), Memory>
+    requires { IsRow row }
 {
-    rows.push(row)
+    rows.push(row.0, &row.1)
 }
 
-/// Rows of type 30 that share one body.
-pub fn add_shared(rows: &mut RowList, body: &Body, count: u32) -> Result<(), Memory>
-    requires rows { AllByRecursion IsRow rows.old }
-    requires row { IsRow (30, body.now) }
-    ensures { AllByRecursion IsRow rows.new }
+/// Rows of type 30 with one body.
+pub fn add_shared(rows: &mut RowRun, body: &Body, count: u32) -> Result<(), Memory>
+    requires { IsRow (30, body.now) }
 {
     for _number in 0..count {
-        add_row(rows, (30, body.share()?))?;
+        rows.push(30, body)?;
     }
     Ok(())
 }
@@ -171,13 +167,6 @@ pub fn rule(
 
 /// No branches.
 pub fn no_branches(alloc: Global) -> BranchList {
-    Items::new(alloc)
-}
-
-/// No rows.
-pub fn no_rows(alloc: Global) -> RowList
-    ensures { AllByRecursion IsRow result }
-{
     Items::new(alloc)
 }
 

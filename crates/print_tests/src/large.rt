@@ -5,12 +5,12 @@ ghost use Rattle.std.specs.List.{AllByRecursion};
 ghost use Rattle.cdc_model.specs.Kept.{IsRow};
 
 use crate::build::{
-    add_branch, add_row, add_shared, no_branches, no_rows, part, printed, shared, transaction,
+    add_branch, add_row, add_shared, no_branches, part, printed, shared, transaction,
     value_body, value_row,
 };
 use cdc_base::Memory;
 use cdc_event::Body;
-use cdc_model::{Layout, RowList, Txn};
+use cdc_model::{Layout, RowList, RowRun, Txn};
 use cdc_rename::Names;
 use cdc_writer::{PrintError, print_length, unit};
 use std::alloc::Global;
@@ -29,11 +29,8 @@ fn filled(alloc: Global, value: u8, count: usize) -> Result<Body, Memory>
     value_body(alloc, bytes.as_slice())
 }
 
-// Adds 255 rows of 2^20 bytes that share one body.
-fn add_large(alloc: Global, rows: &mut RowList) -> Result<(), Memory>
-    requires { AllByRecursion IsRow rows.old }
-    ensures { AllByRecursion IsRow rows.new }
-{
+// Adds 255 rows of 2^20 bytes.
+fn add_large(alloc: Global, rows: &mut RowRun) -> Result<(), Memory> {
     let large = filled(alloc, 7, LARGE)?;
     add_shared(rows, &large, 255)
 }
@@ -43,11 +40,11 @@ fn large_rows(alloc: Global, last: usize) -> Result<RowList, Memory>
     requires { last ≤ 2 ^ 20 }
     ensures { IfOk result (AllByRecursion IsRow) }
 {
-    let mut rows = no_rows(alloc);
+    let mut rows = RowRun::new(alloc);
     add_row(&mut rows, value_row(alloc, b"")?)?;
     add_large(alloc, &mut rows)?;
     add_row(&mut rows, (30, filled(alloc, 9, last)?))?;
-    Ok(rows)
+    rows.finish(alloc)
 }
 
 // A transaction of these rows.

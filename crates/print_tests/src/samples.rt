@@ -3,11 +3,11 @@
 ghost use Rattle.cdc_model.specs.Kept.{IsKeptKey};
 
 use crate::build::{
-    add_branch, add_row, map_of, marked_row, no_branches, no_rows, part, rule, transaction,
+    add_branch, add_row, map_of, marked_row, no_branches, part, rule, transaction,
     value_row,
 };
 use cdc_base::{Key, Memory};
-use cdc_model::{BranchList, Txn};
+use cdc_model::{BranchList, RowRun, Txn};
 use cdc_rename::Names;
 use std::alloc::Global;
 
@@ -57,11 +57,11 @@ pub fn begins_with_head(bytes: &[u8]) -> bool {
 fn add_rows(alloc: Global, branches: &mut BranchList, key: &Key) -> Result<(), Memory>
     requires { IsKeptKey key.now }
 {
-    let mut rows = no_rows(alloc);
+    let mut rows = RowRun::new(alloc);
     let map = map_of(alloc, b"d1", b"t1", COLUMNS)?;
     add_row(&mut rows, (19, map))?;
     add_row(&mut rows, value_row(alloc, VALUE)?)?;
-    add_branch(branches, key, rows)
+    add_branch(branches, key, rows.finish(alloc)?)
 }
 
 // A branch with one marked text, unless the text is empty.
@@ -71,9 +71,9 @@ fn add_text(alloc: Global, branches: &mut BranchList, key: &Key, text: &[u8]) ->
     if text.is_empty() || text.len() > 1000 {
         return Ok(());
     }
-    let mut rows = no_rows(alloc);
+    let mut rows = RowRun::new(alloc);
     add_row(&mut rows, marked_row(alloc, text)?)?;
-    add_branch(branches, key, rows)
+    add_branch(branches, key, rows.finish(alloc)?)
 }
 
 /// A shared transaction of branches with these texts, and of one with rows where it is asked for.
