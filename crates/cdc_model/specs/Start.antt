@@ -1,6 +1,6 @@
 -- What entries leave behind them. A history is a list of entries, the newest first; it leaves the starting
 -- point of all that comes later, and the definitions of faults, water marks and branches read that alone.
-use Rattle.std.specs.Prelude.{ℕ, ◌+◌, ◌==◌, ◌&&◌, not, max, Bool, List, [], ◌∷◌, if◌then◌else◌, nat_eq, filter, Option}
+use Rattle.std.specs.Prelude.{ℕ, ◌+◌, not, max, List, [], ◌∷◌, if◌then◌else◌, filter, Option}
 use Rattle.std.specs.List.{find}
 use Rattle.std.specs.Ordering.{is_lt}
 use Rattle.cdc_base.specs.declared.xid.Xid.{Xid}
@@ -52,6 +52,6 @@ next kind start =
     record { entry = start.entry + 1; mark = max (stamp kind) start.mark; opened = opened_by kind start }
 
 -- where it stands behind a history
-abbrev pub left : Start → List LogEntry → Start
-left start [] = start
-left start (entry ∷ earlier) = next entry.kind (left start earlier)
+abbrev pub left_by : Start → List LogEntry → Start
+left_by start [] = start
+left_by start (entry ∷ earlier) = next entry.kind (left_by start earlier)

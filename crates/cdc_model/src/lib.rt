@@ -19,7 +19,9 @@ mod opened;
 mod order_laws;
 mod reading_laws;
 mod restart_laws;
+mod row_view;
 mod rows;
+mod run;
 mod start;
 mod transaction;
 mod unit;
@@ -62,7 +64,9 @@ pub use restart_laws::{
     restart_point_is_start, restart_point_stays, restart_reads_the_rest,
     restarted_points_are_the_wholes, sound_numbers_end, start_is_restart_point,
 };
-pub use rows::{RowList, share_rows};
+pub use row_view::{RowView, Rows};
+pub use rows::RowList;
+pub use run::RowRun;
 pub use start::StartingPoint;
 pub use transaction::{Txn, TxnList};
 pub use unit::Unit;
