@@ -37,6 +37,7 @@ answer_field flags bytes =
 unfoldable pub database_field : ℕ → List ℕ → Option Field
 database_field flags bytes = if has_flag flags 0x8 then zero_ended bytes else Some record { front = []; behind = bytes }
 
+-- the name of the native password plugin
 abbrev pub native_plugin : List ℕ
 native_plugin = codes "mysql_native_password"
 

@@ -26,9 +26,11 @@ greeting door salt =
 unfoldable pub switch_request : List ℕ → List ℕ
 switch_request salt = 0xfe ∷ native_plugin ++ 0 ∷ [] ++ salt ++ 0 ∷ []
 
+-- the packet that lets a client in
 abbrev pub welcome : List ℕ
 welcome = 0 ∷ 0 ∷ 0 ∷ 2 ∷ 0 ∷ 0 ∷ 0 ∷ []
 
+-- the packet that denies a client
 abbrev pub denial : List ℕ
 denial = 0xff ∷ 0x15 ∷ 0x04 ∷ codes "#28000access denied"
 
