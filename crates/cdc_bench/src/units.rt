@@ -6,10 +6,10 @@ ghost use Rattle.cdc_model.specs.Kept.{IsRow, IsKeptKey};
 
 use cdc_base::{Key, Memory};
 use cdc_event::HEADER_LENGTH;
-use cdc_model::{RowList, Txn};
+use cdc_model::{RowList, RowRun, Txn};
 use cdc_rename::Names;
 use cdc_samples::layouts::{NO_FILE, has_room};
-use cdc_samples::rows::{add_row, add_shared, map_of, no_rows, value_body};
+use cdc_samples::rows::{add_row, add_shared, map_of, value_body};
 use cdc_samples::transactions::{add_branch, no_branches, shared, transaction};
 use cdc_writer::{PrintError, unit};
 use std::alloc::Global;
@@ -23,7 +23,7 @@ const ROWS: u32 = 10;
 /// The length from which on a file is closed.
 const ROTATION: u64 = 1 << 30;
 
-// A branch's rows: a table map, and row events of `size` bytes that share one body.
+// A branch's rows: a table map, and row events of `size` bytes.
 fn branch_rows(alloc: Global, size: u32) -> Result<RowList, Memory>
     requires { size ≤ 2 ^ 26 }
     ensures { IfOk result (AllByRecursion IsRow) }
@@ -31,10 +31,10 @@ fn branch_rows(alloc: Global, size: u32) -> Result<RowList, Memory>
     let zeros = vec![in alloc; 0; (size as usize).saturating_sub(HEADER_LENGTH)]?;
     let body = value_body(alloc, zeros.as_slice())?;
     let map = map_of(alloc, b"d1", b"t1", b"\x01\x03\0\x01")?;
-    let mut rows = no_rows(alloc);
+    let mut rows = RowRun::new(alloc);
     add_row(&mut rows, (19, map))?;
     add_shared(&mut rows, &body, ROWS)?;
-    Ok(rows)
+    rows.finish(alloc)
 }
 
 // A transaction of this key.

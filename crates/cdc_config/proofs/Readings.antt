@@ -1,5 +1,5 @@
 -- What an answer says of what words are, part by part.
-use Rattle.std.proofs.Common.{◌≡◌, ◌↔◌, ◌⊎◌, Option, Some, None, IsSome, is_some, Result, Ok, Err, refl, ap, sym, ◌∙◌, inl, inr}
+use Rattle.std.proofs.Common.{◌≡◌, ◌↔◌, ◌⊎◌, Option, Some, None, IsSome, Result, Ok, Err, refl, sym, ◌∙◌, inl, inr}
 use Rattle.std.specs.Prelude.{IfErr, IfOk}
 use Rattle.std.proofs.lemmas.Bool.{false≢true}
 use Rattle.cdc_config.specs.declared.command.Refusal.{Refusal}

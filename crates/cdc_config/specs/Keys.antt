@@ -1,5 +1,5 @@
 -- What each key of a configuration gives; none where the key is refused.
-use Rattle.std.specs.Prelude.{◌≡◌, ℕ, ◌==◌, ◌&&◌, ◌^◌, not, nat_le, if◌then◌else◌, Bool, true, List, [], ◌∷◌, map, length, codes, is_none, Option, Some, None, option_map, option_and_then, Result, Ok, Err, ⊤}
+use Rattle.std.specs.Prelude.{◌≡◌, ℕ, ◌==◌, ◌&&◌, not, if◌then◌else◌, Bool, true, List, [], ◌∷◌, map, length, codes, is_none, Option, Some, None, option_map, option_and_then, Result, Ok, Err, ⊤}
 use Rattle.std.specs.List.{list_all}
 use Rattle.std.specs.Result.{result_ok}
 use Rattle.hex.specs.Hex.{decode_sized}
@@ -12,8 +12,7 @@ use Rattle.cdc_config.specs.declared.misfit.Misfit.TheVariants as misfit
 use Rattle.cdc_config.specs.declared.parts.OutTable.{OutTable}
 use Rattle.cdc_config.specs.declared.parts.TableNames.{TableNames}
 use Rattle.cdc_config.specs.declared.plan.SplitPlan.{SplitPlan}
-use Rattle.cdc_config.specs.declared.plan.User.{User}
-use Rattle.cdc_config.specs.declared.shape.Shape.{Shape}
+use Rattle.cdc_base.specs.declared.user.User.{User}
 use Rattle.cdc_config.specs.declared.shape.Shape.TheVariants as shape
 use Rattle.cdc_config.specs.Tree.{array_of, are_distinct, if_passed, is_among, is_shaped, path_text, sized_text, whole_number}
 
@@ -63,6 +62,7 @@ out_from value =
 abbrev pub folders_of : List OutTable → List (List ℕ)
 folders_of outs = map (λ (out : OutTable). out.folder) outs
 
+-- where each out listens; empty where it does not
 abbrev pub addresses_of : List OutTable → List (List ℕ)
 addresses_of outs = map (λ (out : OutTable). out.listen) outs
 
@@ -78,16 +78,23 @@ folder_from value = if is_shaped shape.Task value then part_at path_text (codes 
 unfoldable pub task_from : List (List ℕ) → Data → Option (List ℕ)
 task_from taken root = option_and_then (λ folder. if_passed (not (is_among folder taken)) folder) (part_at folder_from (codes "task") root)
 
+-- the names of a table
+abbrev pub table_names : List ℕ → List ℕ → TableNames
+table_names db table = record { db = db; table = table }
+
 -- a database and a table, of 1 to 64 bytes each, at two keys
 abbrev pub table_at : List ℕ → List ℕ → Data → Option TableNames
-table_at db table value =
-    option_and_then (λ d. option_map (λ t. record { db = d; table = t }) (part_at (sized_text 1 64) table value)) (part_at (sized_text 1 64) db value)
+table_at db table value = option_and_then (λ d. option_map (table_names d) (part_at (sized_text 1 64) table value)) (part_at (sized_text 1 64) db value)
+
+-- a rule from a table's names to others
+abbrev pub rule_with : TableNames → TableNames → Rename
+rule_with old new = record { db = old.db; table = old.table; to_db = new.db; to_table = new.table }
 
 -- one rule: the names of a table, and its new names
 abbrev pub rule_from : Data → Option Rename
 rule_from value =
     if is_shaped shape.Table value
-    then option_and_then (λ (old : TableNames). option_map (λ (new : TableNames). record { db = old.db; table = old.table; to_db = new.db; to_table = new.table }) (table_at (codes "to_db") (codes "to_table") value)) (table_at (codes "db") (codes "table") value)
+    then option_and_then (λ old. option_map (rule_with old) (table_at (codes "to_db") (codes "to_table") value)) (table_at (codes "db") (codes "table") value)
     else None
 
 -- no two rules are for one table
@@ -107,6 +114,7 @@ user_name value = option_and_then (λ name. if_passed (list_all (λ byte. not (b
 abbrev pub hash_from : List ℕ → Option (Option (List ℕ))
 hash_from text = if length text == 0 then Some None else option_map Some (result_ok (decode_sized text 20))
 
+-- a user's password hash, or none where the text is empty
 abbrev pub user_hash : Data → Option (Option (List ℕ))
 user_hash value = option_and_then hash_from (as_str value)
 
@@ -117,6 +125,7 @@ user_from value =
     then option_and_then (λ name. option_map (λ hash. record { name = name; hash = hash }) (part_at user_hash (codes "hash") value)) (part_at user_name (codes "name") value)
     else None
 
+-- the names of users
 abbrev pub names_of : List User → List (List ℕ)
 names_of users = map (λ (user : User). user.name) users
 
@@ -140,6 +149,7 @@ split_table outs taken value =
     then option_and_then (λ from. option_map (λ folders. record { from = from; folders = folders }) (part_at (stream_folders taken) (codes "folders") value)) (part_at (whole_number 1 outs) (codes "from") value)
     else None
 
+-- how the output is split, or not at all where the key is absent
 abbrev pub split_with : ℕ → List (List ℕ) → Option Data → Option (Option SplitPlan)
 split_with outs taken None = Some None
 split_with outs taken (Some value) = option_map Some (split_table outs taken value)

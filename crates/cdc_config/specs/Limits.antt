@@ -1,10 +1,9 @@
 -- The limits that a plan keeps.
 use Rattle.std.specs.Prelude.{◌≡◌, ℕ, ◌≤◌, ◌^◌, length, List, Option}
-use Rattle.std.specs.List.{AllByRecursion}
 use Rattle.std.specs.Option.{ForSome}
 use Rattle.cdc_config.specs.declared.plan.Paths.{Paths}
 use Rattle.cdc_config.specs.declared.plan.SplitPlan.{SplitPlan}
-use Rattle.cdc_config.specs.declared.plan.User.{User}
+use Rattle.cdc_base.specs.declared.user.User.{User}
 
 -- a number is within two bounds
 pub record IsWithin (least most number : ℕ) : Type 0 where

@@ -1,8 +1,8 @@
 -- What the values of a configuration's tree give.
 use Rattle.std.specs.Prelude.{◌≡◌, ℕ, ◌==◌, ◌&&◌, not, nat_le, nat_eq, if◌then◌else◌, ℤ, pos, negsuc, Bool, true, false, List, [], ◌∷◌, length, codes, Option, Some, None, option_map, option_and_then, Result, Ok, Err, ⊤}
-use Rattle.std.specs.List.{list_any, list_all}
+use Rattle.std.specs.List.{list_any}
 use Rattle.std.specs.Cmp.Lexicographic.{pointwise}
-use Rattle.toml.specs.Data.{Data, table, Items, no_items, item, Members, no_members, member, as_array, as_integer, as_str, as_table}
+use Rattle.toml.specs.Data.{Data, table, Items, no_items, item, Members, no_members, member, as_array, as_integer, as_str}
 use Rattle.cdc_config.specs.declared.misfit.Misfit.{Misfit}
 use Rattle.cdc_config.specs.declared.misfit.Misfit.TheVariants as misfit
 use Rattle.cdc_config.specs.declared.shape.Shape.{Shape}
@@ -25,6 +25,7 @@ abbrev pub number_between : ℕ → ℕ → ℤ → Option ℕ
 number_between least most (pos number) = if_passed (nat_le least number && nat_le number most) number
 number_between least most (negsuc number) = None
 
+-- a whole number of a range, or none
 abbrev pub whole_number : ℕ → ℕ → Data → Option ℕ
 whole_number least most value = option_and_then (number_between least most) (as_integer value)
 
@@ -68,7 +69,7 @@ are_distinct [] = true
 are_distinct (text ∷ texts) = not (is_among text texts) && are_distinct texts
 
 -- what an answer says of what a value gives: it gives no such thing where it is `Refused`, and want of memory says nothing
-abbrev pub Gives : {A : Type 0} → Result A Misfit → Option A → Type 0
-Gives (Ok read) found = found ≡ Some read
-Gives (Err misfit.Refused) found = found ≡ None
-Gives (Err misfit.Memory) found = ⊤
+abbrev pub GivesPart : {A : Type 0} → Result A Misfit → Option A → Type 0
+GivesPart (Ok read) found = found ≡ Some read
+GivesPart (Err misfit.Refused) found = found ≡ None
+GivesPart (Err misfit.Memory) found = ⊤

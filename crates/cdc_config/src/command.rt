@@ -14,7 +14,9 @@ pub enum Command {
         threads: bool,
     },
     /// Prints what each out has published.
-    List { config: Text },
+    List {
+        config: Text,
+    },
     /// Serves each out at its address; a door closes after so many connections.
     Serve {
         config: Text,
@@ -26,9 +28,15 @@ pub enum Command {
         connections: Option<u64>,
     },
     /// Splits an out's stream by table.
-    Split { config: Text },
+    Split {
+        config: Text,
+    },
     /// Removes the files of an out below a number.
-    Purge { config: Text, out: u64, below: u64 },
+    Purge {
+        config: Text,
+        out: u64,
+        below: u64,
+    },
     /// Finds a commit timestamp in an out.
     Seek {
         config: Text,
@@ -62,6 +70,29 @@ pub enum ConfigKey {
     User,
     Split,
     Unknown,
+}
+
+impl ConfigKey {
+    ghost use Rattle.std.specs.Prelude.{◌≡◌};
+    ghost use Rattle.cdc_config.specs.KeyWords.{key_word};
+
+    /// The word by which a line names the key.
+    pub fn word(self) -> &'static [u8]
+        ensures { result.now ≡ key_word self }
+    {
+        match self {
+            ConfigKey::Toml => b"toml",
+            ConfigKey::Rotation => b"rotation",
+            ConfigKey::Window => b"window",
+            ConfigKey::Node => b"node",
+            ConfigKey::Out => b"out",
+            ConfigKey::Task => b"task",
+            ConfigKey::Table => b"table",
+            ConfigKey::User => b"user",
+            ConfigKey::Split => b"split",
+            ConfigKey::Unknown => b"unknown",
+        }
+    }
 }
 
 /// Why there is no command, or no plan.

@@ -6,6 +6,8 @@
 #![tactic(auto)]
 
 mod command;
+mod filing;
+mod judging;
 mod keys;
 mod misfit;
 mod number;
@@ -13,10 +15,13 @@ mod options;
 mod parts;
 mod plan;
 mod shape;
+mod texts;
 mod tree;
 mod verb;
 mod words;
 
 pub use command::{Command, ConfigKey, Refusal};
-pub use plan::{Paths, Plan, SplitPlan, TextLists, User, UserList};
+pub use judging::plan_of;
+pub use plan::{Paths, Plan, SplitPlan, TextLists};
+pub use texts::paths;
 pub use words::command_of;

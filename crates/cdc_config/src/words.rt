@@ -8,8 +8,9 @@ ghost use Rattle.cdc_config.specs.Words.{Reads, command_from};
 use crate::command::{Command, Refusal};
 use crate::number::number_of;
 use crate::options::{pace_of, sessions_of};
+use crate::texts::texts_of;
 use crate::verb::{Verb, verb_of};
-use cdc_base::{Memory, Text, TextList};
+use cdc_base::{Text, TextList};
 use std::alloc::Global;
 
 /// The most files that `print` takes, one a node.
@@ -74,17 +75,6 @@ fn path_of(alloc: Global, word: &Text) -> Result<Text, Refusal>
         return Err(Refusal::Usage);
     }
     Ok(Text::of(alloc, word.as_str())?)
-}
-
-// The same texts.
-fn texts_of(alloc: Global, words: &[Text]) -> Result<TextList, Memory>
-    ensures { IfOk result (λ texts. texts ≡ words.now) }
-{
-    let mut texts = TextList::new(alloc);
-    for word in words {
-        texts.push(Text::of(alloc, word.as_str())?)?;
-    }
-    Ok(texts)
 }
 
 // `FILE ..`
@@ -177,7 +167,7 @@ fn drill_within(seed: u64, nodes: u64, count: u64) -> Option<Drill>
 
 // `SEED NODES COUNT`
 fn numbers_of(seed: &Text, nodes: &Text, count: &Text) -> Option<Drill>
-    ensures { result ≡ spec.numbers_from seed.now nodes.now count.now }
+    ensures { result ≡ spec.drill_numbers seed.now nodes.now count.now }
 {
     drill_within(number_of(seed)?, number_of(nodes)?, number_of(count)?)
 }
@@ -204,7 +194,11 @@ fn drill_of(words: &[Text]) -> Option<Command>
 fn alone(command: Command, words: &[Text]) -> Option<Command>
     ensures { result ≡ spec.alone command words.now }
 {
-    if words.is_empty() { Some(command) } else { None }
+    if words.is_empty() {
+        Some(command)
+    } else {
+        None
+    }
 }
 
 // The command of a server.

@@ -31,5 +31,5 @@ pub use laws::{
 pub use number::{bytes_4, number_2, number_4};
 pub use reading::{read_body, read_owned_body};
 pub use view::{BodyView, EventView};
-pub use view_reading::read_view;
+pub use view_reading::{read_view, view_body};
 pub use writing::{header_array, write_body, write_event};

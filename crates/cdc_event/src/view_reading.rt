@@ -158,9 +158,9 @@ fn view_timestamp(bytes: &[u8]) -> Option<BodyView<'_>>
     })
 }
 
-// The body of these bytes, by the event's type; none where they don't fit its layout.
+/// The body of these bytes, by the event's type, read in place; none where they don't fit its layout.
 #[tactic(auto, unfolding(crate::specs::Reading::body_at))]
-fn view_body(kind: u8, bytes: &[u8]) -> Option<BodyView<'_>>
+pub fn view_body(kind: u8, bytes: &[u8]) -> Option<BodyView<'_>>
     ensures { option_map body_viewed result ≡ body_at kind bytes.now }
 {
     match kind {

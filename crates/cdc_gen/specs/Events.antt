@@ -18,6 +18,7 @@ pub record Unplaced : Type 0 where
   pub kind : ℕ
   pub body : Body
 
+-- an event that has no place yet
 abbrev pub unplaced : ℕ → ℕ → Body → Unplaced
 unplaced seconds kind body = record { seconds = seconds; kind = kind; body = body }
 
@@ -29,6 +30,7 @@ branch_xid k node = record { gtrid = to_be_bytes w64 k; bqual = to_be_bytes w32 
 abbrev pub query_body : List ℕ → Body
 query_body text = Query 0 0 0 [] [] text
 
+-- the query of an XA statement in its canonical text
 abbrev pub xa_body : Verb → Body
 xa_body verb = query_body (canonical_text verb)
 

@@ -24,6 +24,7 @@ placed_header node at event = record {
   flags = 0;
 }
 
+-- an event of a node at its place
 abbrev pub event_placed : ℕ → ℕ → Unplaced → Event
 event_placed node at event = record { header = placed_header node at event; body = event.body }
 

@@ -45,9 +45,11 @@ stays_stepped holding (Cut file to) may =
     (stays_cut (holding.last_sync file) (holding.pending file) (holding.seen file) to (may file))
 stays_stepped holding Sync may = λ file. stays_synced (holding.seen file)
 
+-- what a read gives is among what a crash may leave, after any steps
 pub stays_replayed : (holding : Holding) (steps : List DiskStep) → LeavesNow holding holding.seen → LeavesNow (replayed holding steps) (replayed holding steps).seen
 stays_replayed holding [] may = may
 stays_replayed holding (step ∷ steps) may = stays_replayed (after_step holding step) steps (stays_stepped holding step may)
 
+-- and so it is from a disk on which nothing is pending
 pub stays_from_rest : (image : Image) (steps : List DiskStep) → LeavesNow (replayed (at_rest image) steps) (replayed (at_rest image) steps).seen
 stays_from_rest image steps = stays_replayed (at_rest image) steps (λ file. stays_synced (image file))

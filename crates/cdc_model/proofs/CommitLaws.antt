@@ -14,7 +14,7 @@ use Rattle.cdc_model.specs.declared.entry.EntryKind.{EntryKind}
 use Rattle.cdc_model.specs.declared.entry.EntryKind.TheVariants.{Prepare, OnePhase, Commit, Rollback, Plain, Beat}
 use Rattle.cdc_model.specs.declared.fault.SortFault.{SortFault}
 use Rattle.cdc_model.specs.Records.{LogEntry, OpenBranch, Start}
-use Rattle.cdc_model.specs.Start.{find_open, left}
+use Rattle.cdc_model.specs.Start.{find_open, left_by}
 use Rattle.cdc_model.specs.Soundness.{undercut, when_open, entry_fault}
 use Rattle.cdc_model.specs.Branch.{Begun, committed, branch_of, begun_branches, is_new, new_branches}
 use Rattle.cdc_model.specs.Commits.{begun_with, IsCommitted, EachCommitGivesOneBranch, OneEntryMore, IsHeld, HeldCommitGivesNone}
@@ -29,7 +29,7 @@ found_open : (xid : Xid) (opened : Option OpenBranch) (fault : OpenBranch → Op
 found_open xid None fault sound = absurd (cc)
 found_open xid (Some branch) fault sound = (branch, refl)
 
-is_committed : (start : Start) (node : ℕ) (earlier : List LogEntry) (kind : EntryKind) (here : Start) → here ≡ left start earlier
+is_committed : (start : Start) (node : ℕ) (earlier : List LogEntry) (kind : EntryKind) (here : Start) → here ≡ left_by start earlier
     → here.entry ≡ start.entry + length earlier → entry_fault kind here ≡ None → IsCommitted start node earlier kind (branch_of node kind here)
 is_committed start node earlier (Prepare xid rows) here is number sound = refl
 is_committed start node earlier (OnePhase xid rows timestamp seconds) here is number sound =
@@ -50,9 +50,9 @@ is_committed start node earlier (Beat timestamp) here is number sound = refl
 
 pub each_commit_gives_one_branch : EachCommitGivesOneBranch
 each_commit_gives_one_branch start node earlier entry sound = (
-  branch_of node entry.kind (left start earlier),
+  branch_of node entry.kind (left_by start earlier),
   refl,
-  is_committed start node earlier entry.kind (left start earlier) refl (numbers_count start earlier) sound,
+  is_committed start node earlier entry.kind (left_by start earlier) refl (numbers_count start earlier) sound,
 )
 
 -- ---- one entry more
@@ -65,7 +65,7 @@ new_append last start front back =
 
 pub one_entry_more : OneEntryMore
 one_entry_more last start node earlier entry =
-    new_append last start (begun_branches start node earlier) (branch_of node entry.kind (left start earlier))
+    new_append last start (begun_branches start node earlier) (branch_of node entry.kind (left_by start earlier))
 
 -- ---- a held branch
 
@@ -92,5 +92,5 @@ held_gives_none last start key number seconds (Some branch) first held =
 
 pub held_commit_gives_none : HeldCommitGivesNone
 held_commit_gives_none last start node earlier xid timestamp seconds is silent =
-    held_gives_none last start (Shared timestamp xid.gtrid) (left start earlier).entry seconds (find_open xid (left start earlier).opened) is.numbered
+    held_gives_none last start (Shared timestamp xid.gtrid) (left_by start earlier).entry seconds (find_open xid (left_by start earlier).opened) is.numbered
     (λ branch found. find_held (λ (o : OpenBranch). same_xid xid o.xid) start.opened branch is.held (sym (unsaid_history xid start earlier silent) ∙ found))

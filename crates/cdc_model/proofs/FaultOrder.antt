@@ -4,7 +4,7 @@ use Rattle.cdc_base.specs.declared.place.Place.{Place}
 use Rattle.cdc_model.specs.declared.fault.SortFault.{SortFault}
 use Rattle.cdc_model.specs.declared.fault.NodeFault.TheVariants.{Sort}
 use Rattle.cdc_model.specs.Records.{LogEntry, Start}
-use Rattle.cdc_model.specs.Start.{next, left}
+use Rattle.cdc_model.specs.Start.{next, left_by}
 use Rattle.cdc_model.specs.Soundness.{entry_fault, AllSound, fault_or, sort_fault, sort_or}
 use Rattle.cdc_model.specs.FirstFault.{IsFirstUnsound, SortFaultIsFirst, LogFaultIsFirst}
 use Rattle.cdc_model.proofs.SoundFront.{left_behind}
@@ -59,7 +59,7 @@ sound_fault start (entry ∷ entries) (none, all) =
 
 -- the fault of a front of sound entries and what stands behind is that of what stands behind
 pub fault_behind : (start : Start) (before behind : List LogEntry) → AllSound start before
-    → sort_fault start (before ++ behind) ≡ sort_fault (left start (reverse before)) behind
+    → sort_fault start (before ++ behind) ≡ sort_fault (left_by start (reverse before)) behind
 fault_behind start [] behind all = refl
 fault_behind start (entry ∷ before) behind (none, all) =
     ap (λ (f : Option SortFault). fault_or entry.at f (sort_fault (next entry.kind start) (before ++ behind))) none
@@ -69,7 +69,7 @@ fault_behind start (entry ∷ before) behind (none, all) =
 unsound_fault : (start : Start) (entries : List LogEntry) (at : Place) (wrong : SortFault) → IsFirstUnsound start entries at wrong
     → sort_fault start entries ≡ Some (at, wrong)
 unsound_fault start entries at wrong first =
-    let here = left start (reverse first.before) in
+    let here = left_by start (reverse first.before) in
     ap (sort_fault start) first.in_order
     ∙ fault_behind start first.before (first.unsound ∷ first.behind) first.sound
     ∙ ap (λ (f : Option SortFault). fault_or first.unsound.at f (sort_fault (next first.unsound.kind here) first.behind)) first.wrong

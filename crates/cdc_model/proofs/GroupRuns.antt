@@ -1,12 +1,12 @@
 -- Runs of the machine: over one list behind another, and over events that end no entry.
 use Rattle.std.proofs.Common.{◌≡◌, ℕ, Bool, true, List, [], ◌∷◌, ◌++◌, append_assoc, append-nil, Option, Some, None, ap, sym, refl, ◌∙◌}
-use Rattle.std.specs.List.{AllByRecursion, cons_option}
+use Rattle.std.specs.List.{cons_option}
 use Rattle.std.specs.Option.{option_map, option_to_list}
 use Rattle.cdc_model.specs.declared.entry.EntryKind.{EntryKind}
 use Rattle.cdc_model.specs.declared.fault.GroupFault.{GroupFault}
 use Rattle.cdc_model.specs.Records.{Row, LogEntry}
 use Rattle.cdc_model.specs.Sign.{Sign, SignedEvent, row_of}
-use Rattle.cdc_model.specs.Group.{rows_in, Progress, Out}
+use Rattle.cdc_model.specs.Group.{AllSigns, rows_in, Progress, Out}
 use Rattle.cdc_model.specs.Misfit.{misfit}
 use Rattle.cdc_model.specs.Advance.{advance, made, entry_at, entry_given}
 use Rattle.cdc_model.proofs.GroupMachine.{Ending, Reached, Misplaced, judged, outcome}
@@ -91,7 +91,7 @@ ends_entry file progress front last kind first led =
 -- events of a kind that leads nowhere
 pub all_pass : (file : ℕ) (progress : Progress) (test : Sign → Bool)
     → ((seconds : ℕ) (sign : Sign) → test sign ≡ true → Leads progress seconds sign progress None)
-    → (events : List SignedEvent) → AllByRecursion (λ (event : SignedEvent). test event.sign ≡ true) events → Passes file progress events progress
+    → (events : List SignedEvent) → AllSigns test events → Passes file progress events progress
 all_pass file progress test leads [] all = refl
 all_pass file progress test leads (event ∷ events) (first, all) =
     passes_on file progress progress progress event events (leads event.seconds event.sign first) (all_pass file progress test leads events all)
@@ -99,7 +99,7 @@ all_pass file progress test leads (event ∷ events) (first, all) =
 -- events of a kind that leads nowhere, but that the rows among them are kept
 pub rows_pass : (file : ℕ) (at : List Row → Progress) (test : Sign → Bool)
     → ((rows : List Row) (seconds : ℕ) (sign : Sign) → test sign ≡ true → Leads (at rows) seconds sign (at (rows ++ option_to_list (row_of sign))) None)
-    → (rows : List Row) (events : List SignedEvent) → AllByRecursion (λ (event : SignedEvent). test event.sign ≡ true) events
+    → (rows : List Row) (events : List SignedEvent) → AllSigns test events
     → Passes file (at rows) events (at (rows ++ rows_in events))
 rows_pass file at test leads rows [] all = ap (λ (list : List Row). ([], Reached (at list))) (sym (append-nil rows))
 rows_pass file at test leads rows (event ∷ events) (first, all) =

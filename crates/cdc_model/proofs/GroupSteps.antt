@@ -2,7 +2,7 @@
 use Rattle.std.proofs.Common.{◌≡◌, ◌≢◌, ◌==◌, ◌⊎◌, inl, inr, ℕ, Bool, true, false, List, [], ◌∷◌, ◌++◌, append_assoc, append-nil, Option, Some, None, ap, sym, subst, refl, ◌∙◌, if◌then◌else◌, arith}
 use Rattle.std.proofs.lemmas.Bool.Decides.{nat_tests}
 use Rattle.std.proofs.lemmas.List.Elements.{filter_map-append}
-use Rattle.std.specs.List.{AllByRecursion, cons_option}
+use Rattle.std.specs.List.{cons_option}
 use Rattle.std.specs.Option.{option_map, option_to_list}
 use Rattle.cdc_base.specs.declared.xid.Xid.{Xid}
 use Rattle.cdc_model.specs.declared.fault.GroupFault.{GroupFault}
@@ -10,7 +10,7 @@ use Rattle.cdc_model.specs.declared.fault.GroupFault.TheVariants.{XidDiffers, No
 use Rattle.cdc_model.specs.Records.{Row, LogEntry}
 use Rattle.cdc_base.specs.Xid.{same_xid}
 use Rattle.cdc_model.specs.Sign.{Sign, SignedEvent, Gtid, Quiet, Ddl, Marked, CommitTime, BeatTime, RowEvent, NumberEvent, PrepareEvent, BeginText, CommitText, RollbackText, SavepointText, XaStartText, XaEndText, XaCommitText, XaRollbackText, OtherText, is_quiet, is_gtid, is_silent, is_inner, is_unmarked, is_passed, row_of}
-use Rattle.cdc_model.specs.Group.{Says, rows_in, Content, TableRows, OneStatement, IsGroupBody, IsEndedXa, IsBegunLocal, IsStamp, IsNoEntry, IsItem, Progress, Out, Wait, Xa, End, Local, Reaches}
+use Rattle.cdc_model.specs.Group.{Says, AllSigns, rows_in, Content, TableRows, OneStatement, IsGroupBody, IsEndedXa, IsBegunLocal, IsStamp, IsNoEntry, IsItem, Progress, Out, Wait, Xa, End, Local, Reaches}
 use Rattle.cdc_model.specs.Misfit.{misfit, misfit_phase, unless_same}
 use Rattle.cdc_model.proofs.SameXid.{no_test, same_xid_is, xid_of}
 use Rattle.cdc_model.specs.Advance.{advance, made, entry_at, entry_given, with_row}
@@ -23,8 +23,8 @@ named_here true fault e = (refl, e)
 named_here false fault e = absurd (let h = e in cc)
 
 all_more : (test : Sign → Bool) (events : List SignedEvent) (event : SignedEvent)
-    → AllByRecursion (λ (e : SignedEvent). test e.sign ≡ true) events → test event.sign ≡ true
-    → AllByRecursion (λ (e : SignedEvent). test e.sign ≡ true) (events ++ event ∷ [])
+    → AllSigns test events → test event.sign ≡ true
+    → AllSigns test (events ++ event ∷ [])
 all_more test [] event all last = (last, tt)
 all_more test (first ∷ events) event (here, all) last = (here, all_more test events event all last)
 
@@ -105,8 +105,8 @@ no_rows_first : (first : Option Row) (rows : List Row) → [] ≡ cons_option fi
 no_rows_first None rows e = (refl, e)
 no_rows_first (Some row) rows e = absurd (let f = e in cc)
 
-all_silent : (events : List SignedEvent) → AllByRecursion (λ (e : SignedEvent). is_unmarked e.sign ≡ true) events → [] ≡ rows_in events
-    → AllByRecursion (λ (e : SignedEvent). is_silent e.sign ≡ true) events
+all_silent : (events : List SignedEvent) → AllSigns is_unmarked events → [] ≡ rows_in events
+    → AllSigns is_silent events
 all_silent [] all none = tt
 all_silent (event ∷ events) (first, all) none =
     let parts = no_rows_first (row_of event.sign) (rows_in events) none in

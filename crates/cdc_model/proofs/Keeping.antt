@@ -10,7 +10,7 @@ use Rattle.cdc_model.specs.declared.entry.EntryKind.{EntryKind}
 use Rattle.cdc_model.specs.declared.entry.EntryKind.TheVariants.{Prepare, OnePhase, Commit, Rollback, Plain, Beat}
 use Rattle.cdc_model.specs.declared.fault.SortFault.{SortFault}
 use Rattle.cdc_model.specs.Records.{Row, LogEntry, OpenBranch, Start}
-use Rattle.cdc_model.specs.Start.{find_open, without, enter, opened_by, next, left}
+use Rattle.cdc_model.specs.Start.{find_open, without, enter, opened_by, next, left_by}
 use Rattle.cdc_model.specs.Watermark.{least, node_low_water_mark}
 use Rattle.cdc_model.specs.Soundness.{undercut, unless_open, when_open, entry_fault, sound_entries, fault_or, sort_fault}
 use Rattle.cdc_model.specs.Restart.{RestartPoint, held_open, held_of, start_at, point_behind}
@@ -90,13 +90,13 @@ start_by entry mark opened = record { entry = entry; mark = mark; opened = opene
 pub next_kept : (from : ℕ) (kind : EntryKind) (s : Start) → from ≤ s.entry → next kind (kept from s) ≡ kept from (next kind s)
 next_kept from kind s h = ap (start_by (next kind s).entry (next kind s).mark) (opened_kept from kind s h)
 
-pub number_grows : (from : ℕ) (s : Start) (later : List LogEntry) → from ≤ s.entry → from ≤ (left s later).entry
+pub number_grows : (from : ℕ) (s : Start) (later : List LogEntry) → from ≤ s.entry → from ≤ (left_by s later).entry
 number_grows from s later h = omega (arith, h, numbers_count s later)
 
-pub left_kept : (from : ℕ) (s : Start) (later : List LogEntry) → from ≤ s.entry → left (kept from s) later ≡ kept from (left s later)
+pub left_kept : (from : ℕ) (s : Start) (later : List LogEntry) → from ≤ s.entry → left_by (kept from s) later ≡ kept from (left_by s later)
 left_kept from s [] h = refl
 left_kept from s (entry ∷ later) h =
-    ap (next entry.kind) (left_kept from s later h) ∙ next_kept from entry.kind (left s later) (number_grows from s later h)
+    ap (next entry.kind) (left_kept from s later h) ∙ next_kept from entry.kind (left_by s later) (number_grows from s later h)
 
 -- ---- faults and marks
 
@@ -179,10 +179,10 @@ all_weaker P Q weaker (x ∷ xs) (here, all) = (weaker x here, all_weaker P Q we
 abbrev pub OpenedBefore : Start → Type 0
 OpenedBefore s = AllByRecursion (λ (o : OpenBranch). o.entry < s.entry) s.opened
 
-pub opened_before : (s : Start) (history : List LogEntry) → OpenedBefore s → OpenedBefore (left s history)
+pub opened_before : (s : Start) (history : List LogEntry) → OpenedBefore s → OpenedBefore (left_by s history)
 opened_before s [] all = all
 opened_before s (entry ∷ earlier) all =
-    let here : Start = left s earlier in
+    let here : Start = left_by s earlier in
     all_next (λ (o : OpenBranch). o.entry < here.entry + 1) entry.kind here (λ xid rows. omega arith)
     (all_weaker (λ (o : OpenBranch). o.entry < here.entry) (λ (o : OpenBranch). o.entry < here.entry + 1) (λ o h. omega (arith, h)) here.opened
     (opened_before s earlier all))
@@ -208,12 +208,12 @@ all_forgotten from (o ∷ opened) (here, all) =
     ∙ ap (λ (b : OpenBranch). b ∷ map (forget from) opened) (sym (forget_early from o (lt-leb from o.entry here)))
 
 pub point_is_kept : (from : RestartPoint) (history : List LogEntry) → 1 ≤ from.entry
-    → start_at (point_behind from history) ≡ kept (left (start_at from) history).entry (left (start_at from) history)
+    → start_at (point_behind from history) ≡ kept (left_by (start_at from) history).entry (left_by (start_at from) history)
 point_is_kept from [] h =
     ap (start_by from.entry from.mark)
     (ap (map held_open) (sym (held_again from.held)) ∙ all_forgotten from.entry (map held_open from.held) (held_before from.entry from.held h))
 point_is_kept from (entry ∷ earlier) h =
-    let here : Start = left (start_at from) (entry ∷ earlier) in
+    let here : Start = left_by (start_at from) (entry ∷ earlier) in
     ap (start_by here.entry here.mark) (all_forgotten here.entry here.opened (opened_before (start_at from) (entry ∷ earlier) (start_before from h)))
 
 held_kept : (from : ℕ) (opened : List OpenBranch) → map held_of (map (forget from) opened) ≡ map held_of opened
@@ -231,9 +231,9 @@ pub point_behind_append : (from : RestartPoint) (later earlier : List LogEntry) 
     → point_behind (point_behind from earlier) later ≡ point_behind from (later ++ earlier)
 point_behind_append from [] earlier h = refl
 point_behind_append from (entry ∷ later) earlier h =
-    let s : Start = left (start_at from) earlier in
-    let here : Start = left s (entry ∷ later) in
-    ap (λ (t : Start). point_here entry (left t (entry ∷ later))) (point_is_kept from earlier h)
+    let s : Start = left_by (start_at from) earlier in
+    let here : Start = left_by s (entry ∷ later) in
+    ap (λ (t : Start). point_here entry (left_by t (entry ∷ later))) (point_is_kept from earlier h)
     ∙ ap (point_here entry) (left_kept s.entry s (entry ∷ later) (omega arith))
     ∙ ap (point_of entry here.entry here.mark) (held_kept s.entry here.opened)
     ∙ ap (point_here entry) (sym (left_append (start_at from) (entry ∷ later) earlier))

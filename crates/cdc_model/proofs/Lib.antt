@@ -1,3 +1,4 @@
+pub mod RunRows
 mod Worked
 mod WorkedEntries
 mod WorkedLogs

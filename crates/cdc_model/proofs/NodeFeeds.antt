@@ -13,7 +13,7 @@ use Rattle.cdc_base.specs.Key.{key_order}
 use Rattle.cdc_model.specs.declared.entry.EntryKind.{EntryKind}
 use Rattle.cdc_model.specs.declared.entry.EntryKind.TheVariants.{Prepare, OnePhase, Commit, Rollback, Plain, Beat}
 use Rattle.cdc_model.specs.Records.{LogEntry, CommittedBranch, OpenBranch, Start}
-use Rattle.cdc_model.specs.Start.{find_open, left}
+use Rattle.cdc_model.specs.Start.{find_open, left_by}
 use Rattle.cdc_model.specs.Watermark.{node_low_water_mark}
 use Rattle.cdc_model.specs.Branch.{Begun, committed, branch_of, begun_branches, is_new, new_branches, committed_branches, is_settled}
 use Rattle.cdc_model.specs.Transaction.{has_key, settled_keys}
@@ -93,11 +93,11 @@ settled_goes_on mark later branches more h above =
 
 pub feed_reads_on : FeedReadsOn
 feed_reads_on last start node history entry sound =
-    let here : Start = left start history in
+    let here : Start = left_by start history in
     let mark = node_low_water_mark here in
     let more : List CommittedBranch = new_branches last start (branch_of node entry.kind here) in
     let low : mark ≤ low_behind start (entry ∷ history) =
-    reaches_low mark (left start (entry ∷ history)) (reaches_next mark entry.kind here (low_reaches here)) in
+    reaches_low mark (left_by start (entry ∷ history)) (reaches_next mark entry.kind here (low_reaches here)) in
     let above = all_unsettled mark more (new_above mark last start (branch_of node entry.kind here) (entry_above mark node entry.kind here (low_reaches here) sound)) in
     let committed : List CommittedBranch = committed_branches last start node history in
     let grown : committed_branches last start node (entry ∷ history) ≡ committed ++ more = one_entry_more last start node history entry in
@@ -265,10 +265,10 @@ module _ (last : Key) (start : Start) where
       one_ascends (s.entry, record { key = PlainKey s.mark node s.entry; entry = s.entry; seconds = seconds; rows = rows })
   given_ascends node (Beat timestamp) s = tt
 
-  entries_below : (node : ℕ) (history : List LogEntry) → EntriesBelow (left start history).entry (committed_branches last start node history)
+  entries_below : (node : ℕ) (history : List LogEntry) → EntriesBelow (left_by start history).entry (committed_branches last start node history)
   entries_below node [] = tt
   entries_below node (entry ∷ earlier) =
-      let here : Start = left start earlier in
+      let here : Start = left_by start earlier in
       let given : List CommittedBranch = new_branches last start (branch_of node entry.kind here) in
       subst (EntriesBelow (here.entry + 1)) (sym (one_entry_more last start node earlier entry))
       (all_both (λ (branch : CommittedBranch). branch.entry < here.entry + 1) (committed_branches last start node earlier) given
@@ -289,7 +289,7 @@ module _ (last : Key) (start : Start) where
   committed_ascend : (node : ℕ) (history : List LogEntry) → AscendByEntry (committed_branches last start node history)
   committed_ascend node [] = tt
   committed_ascend node (entry ∷ earlier) =
-      let here : Start = left start earlier in
+      let here : Start = left_by start earlier in
       let given : List CommittedBranch = new_branches last start (branch_of node entry.kind here) in
       subst AscendByEntry (sym (one_entry_more last start node earlier entry))
       (ascend_append here.entry (committed_branches last start node earlier) given (committed_ascend node earlier) (entries_below node earlier)

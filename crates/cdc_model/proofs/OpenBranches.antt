@@ -9,7 +9,7 @@ use Rattle.cdc_model.specs.declared.entry.EntryKind.{EntryKind}
 use Rattle.cdc_model.specs.declared.entry.EntryKind.TheVariants.{Prepare, OnePhase, Commit, Rollback, Plain, Beat}
 use Rattle.cdc_model.specs.Records.{OpenBranch, Start}
 use Rattle.cdc_base.specs.Xid.{same_xid, xid_order}
-use Rattle.cdc_model.specs.Start.{find_open, without, enter, opened_by, left}
+use Rattle.cdc_model.specs.Start.{find_open, without, enter, opened_by, left_by}
 use Rattle.cdc_model.specs.Watermark.{verdict, verdict_or, OpenAsNewestSays}
 
 pub same_xid_laws : IsEquivalence same_xid
@@ -105,5 +105,5 @@ is_open_next xid (Beat timestamp) start = refl
 pub open_as_newest_says : OpenAsNewestSays
 open_as_newest_says xid start [] = refl
 open_as_newest_says xid start (entry ∷ earlier) =
-    is_open_next xid entry.kind (left start earlier)
+    is_open_next xid entry.kind (left_by start earlier)
     ∙ ap (verdict_or (verdict xid entry.kind)) (open_as_newest_says xid start earlier)

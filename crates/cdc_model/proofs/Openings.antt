@@ -6,7 +6,7 @@ use Rattle.cdc_model.specs.declared.entry.EntryKind.{EntryKind}
 use Rattle.cdc_model.specs.declared.entry.EntryKind.TheVariants.{Prepare, OnePhase, Commit, Rollback, Plain, Beat}
 use Rattle.cdc_model.specs.Records.{Row, LogEntry, OpenBranch, Start}
 use Rattle.cdc_base.specs.Xid.{same_xid, xid_order}
-use Rattle.cdc_model.specs.Start.{find_open, without, enter, opened_by, left}
+use Rattle.cdc_model.specs.Start.{find_open, without, enter, opened_by, left_by}
 use Rattle.cdc_model.specs.Watermark.{verdict}
 use Rattle.cdc_model.specs.Openings.{SayNothingOf, branch_opened, StandsOpen, OpenIsNewestPrepare}
 use Rattle.cdc_model.proofs.Marks.{numbers_count}
@@ -28,7 +28,7 @@ find_kept {X} test out x xs false is fails behind =
     ap (λ (b : Bool). find test (cond (not b) (x ∷ filter (λ y. not (out y)) xs) (filter (λ y. not (out y)) xs))) is
     ∙ ap (λ (o : Option X). cond (test x) (Some x) o) behind
 
--- what is left out doesn't pass, so the search finds what it found
+-- what is left_by out doesn't pass, so the search finds what it found
 find_without_other : {X : Type 0} (test out : X → Bool) → ((x : X) → out x ≡ true → test x ≡ false) → (xs : List X)
     → find test (filter (λ y. not (out y)) xs) ≡ find test xs
 find_without_other test out apart [] = refl
@@ -43,7 +43,7 @@ find_left_at test out x xs false is fails behind =
     ap (λ (b : Bool). find test (cond (not b) (x ∷ filter (λ y. not (out y)) xs) (filter (λ y. not (out y)) xs))) is
     ∙ find_at test x (filter (λ y. not (out y)) xs) false (fails refl) ∙ behind
 
--- all that passes is left out, so the search finds none
+-- all that passes is left_by out, so the search finds none
 find_without_same : {X : Type 0} (test out : X → Bool) → ((x : X) → out x ≡ false → test x ≡ false) → (xs : List X)
     → find test (filter (λ y. not (out y)) xs) ≡ None
 find_without_same test out all [] = refl
@@ -154,9 +154,9 @@ unsaid xid kind start none = by (tells xid kind start)
     by (nothing told now) = now
 
 pub unsaid_history : (xid : Xid) (start : Start) (history : List LogEntry) → SayNothingOf xid history
-    → find_open xid (left start history).opened ≡ find_open xid start.opened
+    → find_open xid (left_by start history).opened ≡ find_open xid start.opened
 unsaid_history xid start [] all = refl
-unsaid_history xid start (entry ∷ earlier) (none, all) = unsaid xid entry.kind (left start earlier) none ∙ unsaid_history xid start earlier all
+unsaid_history xid start (entry ∷ earlier) (none, all) = unsaid xid entry.kind (left_by start earlier) none ∙ unsaid_history xid start earlier all
 
 some_is : {X : Type 0} (x y : X) → Some x ≡ Some y → x ≡ y
 some_is x y e = cc
@@ -165,13 +165,13 @@ abbrev open_branch : Xid → ℕ → ℕ → List Row → OpenBranch
 open_branch xid floor entry rows = record { xid = xid; floor = floor; entry = entry; rows = rows }
 
 opened_here : (start : Start) (xid : Xid) (rows : List Row) (earlier : List LogEntry)
-    → opens_at (left start earlier) xid rows ≡ branch_opened start xid rows earlier
-opened_here start xid rows earlier = ap (λ (n : ℕ). open_branch xid (left start earlier).mark n rows) (numbers_count start earlier)
+    → opens_at (left_by start earlier) xid rows ≡ branch_opened start xid rows earlier
+opened_here start xid rows earlier = ap (λ (n : ℕ). open_branch xid (left_by start earlier).mark n rows) (numbers_count start earlier)
 
-found_stands : (start : Start) (history : List LogEntry) (xid : Xid) (branch : OpenBranch) → find_open xid (left start history).opened ≡ Some branch
+found_stands : (start : Start) (history : List LogEntry) (xid : Xid) (branch : OpenBranch) → find_open xid (left_by start history).opened ≡ Some branch
     → StandsOpen start history xid branch
 found_stands start [] xid branch found = inr (tt, found)
-found_stands start (entry ∷ earlier) xid branch found = by (tells xid entry.kind (left start earlier)) (found_stands start earlier xid branch)
+found_stands start (entry ∷ earlier) xid branch found = by (tells xid entry.kind (left_by start earlier)) (found_stands start earlier xid branch)
   where
     later : verdict xid entry.kind ≡ None → StandsOpen start earlier xid branch → StandsOpen start (entry ∷ earlier) xid branch
     later none (inl newest) = inl record {
@@ -186,7 +186,7 @@ found_stands start (entry ∷ earlier) xid branch found = by (tells xid entry.ki
     }
     later none (inr held) = inr ((none, held.0), held.1)
 
-    by : Tells xid entry.kind (left start earlier) → (find_open xid (left start earlier).opened ≡ Some branch → StandsOpen start earlier xid branch)
+    by : Tells xid entry.kind (left_by start earlier) → (find_open xid (left_by start earlier).opened ≡ Some branch → StandsOpen start earlier xid branch)
         → StandsOpen start (entry ∷ earlier) xid branch
     by (opens rows is now) behind = inl record {
       later = [];
@@ -196,7 +196,7 @@ found_stands start (entry ∷ earlier) xid branch found = by (tells xid entry.ki
       in_order = refl;
       prepares = is;
       nothing_later = tt;
-      opened = some_is branch (opens_at (left start earlier) xid rows) (sym found ∙ now) ∙ opened_here start xid rows earlier;
+      opened = some_is branch (opens_at (left_by start earlier) xid rows) (sym found ∙ now) ∙ opened_here start xid rows earlier;
     }
     by (ends told now) behind = absurd (let e : None ≡ Some branch = sym now ∙ found in cc)
     by (nothing told now) behind = later told (behind (sym now ∙ found))
@@ -210,12 +210,12 @@ prepared_found xid rows kind start is =
     (found_without_same xid xid start.opened (same_xid_laws.refl xid))
 
 stands_found : (start : Start) (history : List LogEntry) (xid : Xid) (branch : OpenBranch) → StandsOpen start history xid branch
-    → find_open xid (left start history).opened ≡ Some branch
+    → find_open xid (left_by start history).opened ≡ Some branch
 stands_found start history xid branch (inl newest) =
-    ap (λ (list : List LogEntry). find_open xid (left start list).opened) newest.in_order
+    ap (λ (list : List LogEntry). find_open xid (left_by start list).opened) newest.in_order
     ∙ ap (λ (s : Start). find_open xid s.opened) (left_append start newest.later (newest.prepare ∷ newest.earlier))
-    ∙ unsaid_history xid (left start (newest.prepare ∷ newest.earlier)) newest.later newest.nothing_later
-    ∙ prepared_found xid newest.rows newest.prepare.kind (left start newest.earlier) newest.prepares
+    ∙ unsaid_history xid (left_by start (newest.prepare ∷ newest.earlier)) newest.later newest.nothing_later
+    ∙ prepared_found xid newest.rows newest.prepare.kind (left_by start newest.earlier) newest.prepares
     ∙ ap (λ (o : OpenBranch). Some o) (opened_here start xid newest.rows newest.earlier ∙ sym newest.opened)
 stands_found start history xid branch (inr (silent, held)) = unsaid_history xid start history silent ∙ held
 

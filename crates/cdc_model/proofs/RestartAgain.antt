@@ -9,7 +9,7 @@ use Rattle.cdc_base.specs.declared.key.Key.TheVariants.{Shared, Plain as PlainKe
 use Rattle.cdc_model.specs.declared.entry.EntryKind.{EntryKind}
 use Rattle.cdc_model.specs.declared.entry.EntryKind.TheVariants.{Prepare, OnePhase, Commit, Rollback, Plain, Beat}
 use Rattle.cdc_model.specs.Records.{LogEntry, OpenBranch, Start}
-use Rattle.cdc_model.specs.Start.{find_open, left}
+use Rattle.cdc_model.specs.Start.{find_open, left_by}
 use Rattle.cdc_model.specs.Branch.{Begun, committed, branch_of, begun_branches}
 use Rattle.cdc_model.specs.Restart.{RestartPoint, start_at, point_behind, point_before, IsAtMost, IsRestartEntry, IsRestartPoint, PointsGoOn, RestartedPointsAreTheWholes}
 use Rattle.cdc_model.proofs.Marks.{numbers_count}
@@ -104,14 +104,14 @@ module _ (first from number : ℕ) (grown : first ≤ from) (positive : 1 ≤ fr
         let Q : Begun → Type 0 = λ (b : Begun). from ≤ b.0 → b.0 < number → IsAtMost b.1.key later in
         let R : Begun → Type 0 = λ (b : Begun). first ≤ b.0 → b.0 < number → IsAtMost b.1.key later in
         let before : List Begun = begun_branches s node history in
-        let here : List Begun = branch_of node entry.kind (left s history) in
+        let here : List Begun = branch_of node entry.kind (left_by s history) in
         let before_rest : List Begun = begun_branches (kept from s) node history in
-        let here_rest : List Begun = branch_of node entry.kind (left (kept from s) history) in
-        let here_kept : BegunBelow from number later (branch_of node entry.kind (kept from (left s history))) =
+        let here_rest : List Begun = branch_of node entry.kind (left_by (kept from s) history) in
+        let here_kept : BegunBelow from number later (branch_of node entry.kind (kept from (left_by s history))) =
         subst (λ (t : Start). BegunBelow from number later (branch_of node entry.kind t)) (left_kept from s history h) (all_back Q before_rest here_rest high) in
         all_both R before here
         (below_forth node s history h (all_front P before here low) (all_front Q before_rest here_rest high))
-        (given_forth node entry.kind (left s history) (number_grows from s history h) (all_back P before here low) here_kept)
+        (given_forth node entry.kind (left_by s history) (number_grows from s history h) (all_back P before here low) here_kept)
 
     low_forth : (begun : List Begun) → AllByRecursion (λ (b : Begun). b.0 < from) begun → BegunBelow first from last begun → BegunBelow first number later begun
     low_forth [] under low = tt
@@ -154,11 +154,11 @@ module _ (first from number : ℕ) (grown : first ≤ from) (positive : 1 ≤ fr
         let Q : Begun → Type 0 = λ (b : Begun). from ≤ b.0 → b.0 < number → IsAtMost b.1.key later in
         let R : Begun → Type 0 = λ (b : Begun). first ≤ b.0 → b.0 < number → IsAtMost b.1.key later in
         let before : List Begun = begun_branches s node history in
-        let here : List Begun = branch_of node entry.kind (left s history) in
-        all_both Q (begun_branches (kept from s) node history) (branch_of node entry.kind (left (kept from s) history))
+        let here : List Begun = branch_of node entry.kind (left_by s history) in
+        all_both Q (begun_branches (kept from s) node history) (branch_of node entry.kind (left_by (kept from s) history))
         (below_back node s history h (all_front R before here low))
         (subst (λ (t : Start). BegunBelow from number later (branch_of node entry.kind t)) (sym (left_kept from s history h))
-        (given_back node entry.kind (left s history) (number_grows from s history h) (all_back R before here low)))
+        (given_back node entry.kind (left_by s history) (number_grows from s history h) (all_back R before here low)))
 
 -- ---- sound numbers
 
@@ -167,7 +167,7 @@ module _ (last later : Key) (from : RestartPoint) (node : ℕ) (before behind : 
   first = start_at from
 
   abbrev here : Start
-  here = left first (reverse before)
+  here = left_by first (reverse before)
 
   abbrev resumed : Start
   resumed = kept here.entry here
@@ -187,7 +187,7 @@ module _ (last later : Key) (from : RestartPoint) (node : ℕ) (before behind : 
   above_zero : 1 ≤ here.entry
   above_zero = omega (arith, here_number, positive)
 
-  rest_opened : (left resumed (reverse behind)).opened ≡ map (forget here.entry) (left first whole).opened
+  rest_opened : (left_by resumed (reverse behind)).opened ≡ map (forget here.entry) (left_by first whole).opened
   rest_opened =
       ap (λ (s : Start). s.opened) (left_kept here.entry here (reverse behind) same)
       ∙ ap (λ (s : Start). map (forget here.entry) s.opened) (sym (left_append first (reverse behind) (reverse before)))
@@ -206,7 +206,7 @@ module _ (last later : Key) (from : RestartPoint) (node : ℕ) (before behind : 
         first = omega (arith, rest.first, grown);
         most = omega (arith, rest.most, here_number, length-append (reverse behind) (reverse before), length-reverse before);
         ended =
-            ended_forth from.entry here.entry number grown above_zero (left first whole).opened sound.ended
+            ended_forth from.entry here.entry number grown above_zero (left_by first whole).opened sound.ended
             (subst (OpenFrom here.entry number) rest_opened rest.ended);
         below =
             subst (BegunBelow from.entry number later) (sym whole_begun)
@@ -226,7 +226,7 @@ module _ (last later : Key) (from : RestartPoint) (node : ℕ) (before behind : 
         most = omega (arith, sound.most, here_number, length-append (reverse behind) (reverse before), length-reverse before);
         ended =
             subst (OpenFrom here.entry number) (sym rest_opened)
-            (ended_back from.entry here.entry number grown above_zero (left first whole).opened sound.ended);
+            (ended_back from.entry here.entry number grown above_zero (left_by first whole).opened sound.ended);
         below =
             below_back from.entry here.entry number grown above_zero later node here (reverse behind) same
             (all_back R earlier further (subst (BegunBelow from.entry number later) whole_begun sound.below));

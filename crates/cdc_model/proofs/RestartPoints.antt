@@ -15,7 +15,7 @@ use Rattle.cdc_base.specs.Xid.{same_xid}
 use Rattle.cdc_model.specs.declared.entry.EntryKind.{EntryKind}
 use Rattle.cdc_model.specs.declared.entry.EntryKind.TheVariants.{Prepare, OnePhase, Commit, Rollback, Plain, Beat}
 use Rattle.cdc_model.specs.Records.{LogEntry, OpenBranch, Start}
-use Rattle.cdc_model.specs.Start.{find_open, left}
+use Rattle.cdc_model.specs.Start.{find_open, left_by}
 use Rattle.cdc_model.specs.Watermark.{least}
 use Rattle.cdc_model.specs.Branch.{Begun, committed, branch_of, begun_branches, is_new}
 use Rattle.cdc_model.specs.Commits.{IsHeld}
@@ -95,28 +95,28 @@ given_all P node (Beat timestamp) s here all = tt
 
 -- ---- a sound number stays sound
 
-open_from : (first number : ℕ) (start : Start) (new history : List LogEntry) → number ≤ (left start history).entry
-    → OpenFrom first number (left start history).opened → OpenFrom first number (left start (new ++ history)).opened
+open_from : (first number : ℕ) (start : Start) (new history : List LogEntry) → number ≤ (left_by start history).entry
+    → OpenFrom first number (left_by start history).opened → OpenFrom first number (left_by start (new ++ history)).opened
 open_from first number start [] history h all = all
 open_from first number start (entry ∷ new) history h all =
-    let here : Start = left start (new ++ history) in
+    let here : Start = left_by start (new ++ history) in
     all_next (λ (o : OpenBranch). first ≤ o.entry → number ≤ o.entry) entry.kind here
     (λ xid rows from. still (new ++ history) (omega (arith, numbers_count start (new ++ history), numbers_count start history, length-append new history, h)))
     (open_from first number start new history h all)
   where
-    still : (list : List LogEntry) → number ≤ (left start list).entry → number ≤ (left start list).entry
+    still : (list : List LogEntry) → number ≤ (left_by start list).entry → number ≤ (left_by start list).entry
     still list k = k
 
 -- what began below a number has a key of at most this one
 abbrev pub BegunBelow : ℕ → ℕ → Key → List Begun → Type 0
 BegunBelow first number last begun = AllByRecursion (λ (b : Begun). first ≤ b.0 → b.0 < number → IsAtMost b.1.key last) begun
 
-begun_below : (first number node : ℕ) (last : Key) (start : Start) (new history : List LogEntry) → number ≤ (left start history).entry
-    → OpenFrom first number (left start history).opened → BegunBelow first number last (begun_branches start node history)
+begun_below : (first number node : ℕ) (last : Key) (start : Start) (new history : List LogEntry) → number ≤ (left_by start history).entry
+    → OpenFrom first number (left_by start history).opened → BegunBelow first number last (begun_branches start node history)
     → BegunBelow first number last (begun_branches start node (new ++ history))
 begun_below first number node last start [] history h all below = below
 begun_below first number node last start (entry ∷ new) history h all below =
-    let here : Start = left start (new ++ history) in
+    let here : Start = left_by start (new ++ history) in
     let above : number ≤ here.entry = omega (arith, numbers_count start (new ++ history), numbers_count start history, length-append new history, h) in
     all_both (λ (b : Begun). first ≤ b.0 → b.0 < number → IsAtMost b.1.key last) (begun_branches start node (new ++ history)) (branch_of node entry.kind here)
     (begun_below first number node last start new history h all below)
@@ -127,7 +127,7 @@ begun_below first number node last start (entry ∷ new) history h all below =
 pub entry_stays : (last later : Key) (start : Start) (node : ℕ) (new history : List LogEntry) (number : ℕ) → IsAtMost last later
     → IsRestartEntry last start node history number → IsRestartEntry later start node (new ++ history) number
 entry_stays last later start node new history number more sound =
-    let h : number ≤ (left start history).entry = omega (arith, numbers_count start history, sound.most) in
+    let h : number ≤ (left_by start history).entry = omega (arith, numbers_count start history, sound.most) in
     record {
       first = sound.first;
       most = omega (arith, sound.most, length-append new history);
@@ -149,7 +149,7 @@ pub start_entry : (last : Key) (start : Start) (node : ℕ) (history : List LogE
 start_entry last start node history = record {
   first = omega arith;
   most = omega arith;
-  ended = all_trivial (λ (o : OpenBranch). start.entry ≤ o.entry → start.entry ≤ o.entry) (λ o h. h) (left start history).opened;
+  ended = all_trivial (λ (o : OpenBranch). start.entry ≤ o.entry → start.entry ≤ o.entry) (λ o h. h) (left_by start history).opened;
   below = all_trivial (λ (b : Begun). start.entry ≤ b.0 → b.0 < start.entry → IsAtMost b.1.key last) (λ b low high. absurd (omega (arith, low, high))) (begun_branches start node history);
 }
 
@@ -218,7 +218,7 @@ passes_where {X} test number_of P number fails holds (x ∷ xs) all = by (test x
 
 module _ (last : Key) (start : Start) (node : ℕ) (history : List LogEntry) where
   abbrev here : Start
-  here = left start history
+  here = left_by start history
 
   abbrev opened_late : OpenBranch → Bool
   opened_late o = leb start.entry o.entry
@@ -346,7 +346,7 @@ ascend_held (o ∷ opened) (below, ascend) = (below_held o.xid opened below, asc
 behind_ascends : (from : RestartPoint) (history : List LogEntry) → AscendByXid (start_at from).opened → AscendByXid (start_at (point_behind from history)).opened
 behind_ascends from [] ascend = ascend
 behind_ascends from (entry ∷ earlier) ascend =
-    ascend_held (left (start_at from) (entry ∷ earlier)).opened (open_branches_ascend (start_at from) (entry ∷ earlier) ascend)
+    ascend_held (left_by (start_at from) (entry ∷ earlier)).opened (open_branches_ascend (start_at from) (entry ∷ earlier) ascend)
 
 pub restart_point_is_start : RestartPointIsStart
 restart_point_is_start last from node entries point start is = record {

@@ -19,7 +19,7 @@ use Rattle.cdc_model.specs.declared.fault.NodeFault.TheVariants.{Sort}
 use Rattle.cdc_model.specs.declared.fault.SortFault.{SortFault}
 use Rattle.cdc_model.specs.declared.node_log.NodeLog.{NodeLog}
 use Rattle.cdc_model.specs.Records.{LogEntry, CommittedBranch, OpenBranch, Start}
-use Rattle.cdc_model.specs.Start.{find_open, next, left}
+use Rattle.cdc_model.specs.Start.{find_open, next, left_by}
 use Rattle.cdc_model.specs.Watermark.{node_low_water_mark}
 use Rattle.cdc_model.specs.Soundness.{sound_entries, sort_or, reached, AllSound}
 use Rattle.cdc_model.specs.Branch.{Begun, committed, branch_of, begun_branches}
@@ -135,21 +135,21 @@ module _ (first from : ℕ) (last : Key) (above_first : first ≤ from) (above_z
   begun_kept node s (entry ∷ later) h below =
       let P : Begun → Type 0 = λ (b : Begun). first ≤ b.0 → b.0 < from → IsAtMost b.1.key last in
       let before : List Begun = begun_branches s node later in
-      let here : List Begun = branch_of node entry.kind (left s later) in
-      new_from_append from last (begun_branches (kept from s) node later) (branch_of node entry.kind (left (kept from s) later))
-      ∙ ap (λ (list : List CommittedBranch). list ++ new_from from last (branch_of node entry.kind (left (kept from s) later)))
+      let here : List Begun = branch_of node entry.kind (left_by s later) in
+      new_from_append from last (begun_branches (kept from s) node later) (branch_of node entry.kind (left_by (kept from s) later))
+      ∙ ap (λ (list : List CommittedBranch). list ++ new_from from last (branch_of node entry.kind (left_by (kept from s) later)))
       (begun_kept node s later h (all_front P before here below))
       ∙ ap (λ (t : Start). new_from first last before ++ new_from from last (branch_of node entry.kind t)) (left_kept from s later h)
       ∙ ap (λ (list : List CommittedBranch). new_from first last before ++ list)
-      (given_kept node entry.kind (left s later) (number_grows from s later h) (all_back P before here below))
+      (given_kept node entry.kind (left_by s later) (number_grows from s later h) (all_back P before here below))
       ∙ sym (new_from_append first last before here)
 
 -- what entries commit began before the next one
 pub begun_before : (start : Start) (node : ℕ) (history : List LogEntry) → OpenedBefore start
-    → AllByRecursion (λ (b : Begun). b.0 < (left start history).entry) (begun_branches start node history)
+    → AllByRecursion (λ (b : Begun). b.0 < (left_by start history).entry) (begun_branches start node history)
 begun_before start node [] before = tt
 begun_before start node (entry ∷ earlier) before =
-    let here : Start = left start earlier in
+    let here : Start = left_by start earlier in
     all_both (λ (b : Begun). b.0 < here.entry + 1) (begun_branches start node earlier) (branch_of node entry.kind here)
     (all_weaker (λ (b : Begun). b.0 < here.entry) (λ (b : Begun). b.0 < here.entry + 1) (λ b h. omega (arith, h)) (begun_branches start node earlier)
     (begun_before start node earlier before))
@@ -160,7 +160,7 @@ begun_before start node (entry ∷ earlier) before =
 -- ---- a whole reading, and the one behind some sound entries
 
 sound_behind : (start : Start) (before behind : List LogEntry) → AllSound start before
-    → sound_entries start (before ++ behind) ≡ before ++ sound_entries (left start (reverse before)) behind
+    → sound_entries start (before ++ behind) ≡ before ++ sound_entries (left_by start (reverse before)) behind
 sound_behind start [] behind sound = refl
 sound_behind start (entry ∷ before) behind (none, sound) =
     ap (λ (f : Option SortFault). if is_none f then entry ∷ sound_entries (next entry.kind start) (before ++ behind) else []) none
@@ -170,7 +170,7 @@ sound_behind start (entry ∷ before) behind (none, sound) =
 
 module _ (last : Key) (node : ℕ) (first : Start) (before behind : List LogEntry) where
   abbrev here : Start
-  here = left first (reverse before)
+  here = left_by first (reverse before)
 
   abbrev sound_later : List LogEntry
   sound_later = sound_entries here behind
@@ -191,10 +191,10 @@ module _ (last : Key) (node : ℕ) (first : Start) (before behind : List LogEntr
       let rest_sound : sound_entries (kept here.entry here) behind ≡ sound_later = sound_kept here.entry here behind same in
       let whole_history : reverse (sound_entries first (before ++ behind)) ≡ reverse sound_later ++ reverse before =
       ap reverse whole_sound ∙ reverse-append before sound_later in
-      let whole_reached : reached whole_log ≡ left here (reverse sound_later) =
-      ap (left first) whole_history ∙ left_append first (reverse sound_later) (reverse before) in
-      let rest_reached : reached rest_log ≡ kept here.entry (left here (reverse sound_later)) =
-      ap (λ (list : List LogEntry). left (kept here.entry here) (reverse list)) rest_sound
+      let whole_reached : reached whole_log ≡ left_by here (reverse sound_later) =
+      ap (left_by first) whole_history ∙ left_append first (reverse sound_later) (reverse before) in
+      let rest_reached : reached rest_log ≡ kept here.entry (left_by here (reverse sound_later)) =
+      ap (λ (list : List LogEntry). left_by (kept here.entry here) (reverse list)) rest_sound
       ∙ left_kept here.entry here (reverse sound_later) same in
       let earlier : List Begun = begun_branches first node (reverse before) in
       let later : List Begun = begun_branches here node (reverse sound_later) in
@@ -212,7 +212,7 @@ module _ (last : Key) (node : ℕ) (first : Start) (before behind : List LogEntr
       ∙ begun_kept first.entry here.entry last grown above node here (reverse sound_later) same (all_back P earlier later both) in
       record {
         bound =
-            ap node_low_water_mark rest_reached ∙ mark_kept here.entry (left here (reverse sound_later)) ∙ sym (ap node_low_water_mark whole_reached);
+            ap node_low_water_mark rest_reached ∙ mark_kept here.entry (left_by here (reverse sound_later)) ∙ sym (ap node_low_water_mark whole_reached);
         branches = rest_new ∙ sym whole_new;
         before = before;
         number = omega (arith, numbers_count first (reverse before), length-reverse before);
@@ -278,12 +278,12 @@ split_longer from entries number more s =
 rest_of_split : (last : Key) (from point : RestartPoint) (node : ℕ) (before behind : List LogEntry) → 1 ≤ from.entry
     → point ≡ point_behind from (reverse before) → AllSound (start_at from) before
     → IsRestartEntry last (start_at from) node
-    (reverse (sound_entries (left (start_at from) (reverse before)) behind) ++ reverse before) point.entry
-    → (left (start_at from) (reverse before)).entry ≡ point.entry
+    (reverse (sound_entries (left_by (start_at from) (reverse before)) behind) ++ reverse before) point.entry
+    → (left_by (start_at from) (reverse before)).entry ≡ point.entry
     → ReadsTheRest last node (record { start = start_at from; entries = before ++ behind }) (record { start = start_at point; entries = behind })
 rest_of_split last from point node before behind h is sound entry number =
     let first : Start = start_at from in
-    let here_is : Start = left first (reverse before) in
+    let here_is : Start = left_by first (reverse before) in
     subst (λ (s : Start). ReadsTheRest last node (record { start = first; entries = before ++ behind }) (record { start = s; entries = behind }))
     (sym (ap start_at is ∙ point_is_kept from (reverse before) h))
     (rest_is_read last node first before behind (start_before from h)
@@ -305,7 +305,7 @@ restart_reads_the_rest last from point node old entries h front is =
     let before_sound : AllSound first s.before = sound_front first s.before (s.behind ++ front.rest) all_sound in
     let order : entries ≡ s.before ++ u.behind =
     whole.front ∙ ap (λ (list : List LogEntry). list ++ whole.rest) front.is ∙ u.in_order in
-    let here_is : Start = left first (reverse s.before) in
+    let here_is : Start = left_by first (reverse s.before) in
     let number : here_is.entry ≡ point.entry =
     omega (arith, numbers_count first (reverse s.before), length-reverse s.before, s.count, is.sound.first) in
     let later : sound_entries here_is u.behind ≡ s.behind ++ front.rest =

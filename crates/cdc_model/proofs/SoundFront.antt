@@ -3,7 +3,7 @@ use Rattle.std.proofs.Common.{◌≡◌, List, [], ◌∷◌, ◌++◌, Option, 
 use Rattle.std.proofs.lemmas.Grind.{reverse_onto}
 use Rattle.cdc_model.specs.declared.fault.SortFault.{SortFault}
 use Rattle.cdc_model.specs.Records.{LogEntry, Start}
-use Rattle.cdc_model.specs.Start.{next, left}
+use Rattle.cdc_model.specs.Start.{next, left_by}
 use Rattle.cdc_model.specs.Soundness.{entry_fault, sound_entries, EndsAt, IsLongestSoundFront, SoundIsLongest}
 
 pub left_append : (start : Start) (later earlier : List LogEntry) → left start (later ++ earlier) ≡ left (left start earlier) later
@@ -14,7 +14,7 @@ left_append start (entry ∷ later) earlier = ap (next entry.kind) (left_append 
 pub left_behind : (start : Start) (entry : LogEntry) (later : List LogEntry)
     → left (next entry.kind start) (reverse later) ≡ left start (reverse (entry ∷ later))
 left_behind start entry later =
-    sym (left_append start (reverse later) (entry ∷ [])) ∙ ap (left start) (sym (reverse_onto later entry []))
+    sym (left_append start (reverse later) (entry ∷ [])) ∙ ap (left_by start) (sym (reverse_onto later entry []))
 
 sound_first : (start : Start) (entry : LogEntry) (entries sound : List LogEntry) → entry_fault entry.kind start ≡ None
     → IsLongestSoundFront (next entry.kind start) entries sound → IsLongestSoundFront start (entry ∷ entries) (entry ∷ sound)

@@ -21,7 +21,7 @@ use Rattle.cdc_model.specs.declared.node_log.NodeLog.{NodeLog}
 use Rattle.cdc_model.specs.Records.{LogEntry, CommittedBranch, OpenBranch, Start}
 use Rattle.cdc_model.specs.Log.{IsLogPrefix}
 use Rattle.cdc_model.specs.Entries.{LengthensLog}
-use Rattle.cdc_model.specs.Start.{beginning, find_open, without, enter, opened_by, next, left}
+use Rattle.cdc_model.specs.Start.{beginning, find_open, without, enter, opened_by, next, left_by}
 use Rattle.cdc_model.specs.Watermark.{least, node_low_water_mark}
 use Rattle.cdc_model.specs.Soundness.{undercut, unless_open, when_open, entry_fault, sound_entries, fault_or, sort_fault, sort_or, log_fault, sound_history, reached, AllSound}
 use Rattle.cdc_model.specs.Branch.{Begun, committed, branch_of, begun_branches, is_new, new_branches}
@@ -239,12 +239,12 @@ entry_above low node (Beat timestamp) start reaches sound = tt
 -- ---- further entries
 
 pub begun_append : (start : Start) (node : ℕ) (later earlier : List LogEntry)
-    → begun_branches start node (later ++ earlier) ≡ begun_branches start node earlier ++ begun_branches (left start earlier) node later
+    → begun_branches start node (later ++ earlier) ≡ begun_branches start node earlier ++ begun_branches (left_by start earlier) node later
 begun_append start node [] earlier = sym (append-nil (begun_branches start node earlier))
 begun_append start node (entry ∷ later) earlier =
-    ap (λ (list : List Begun). list ++ branch_of node entry.kind (left start (later ++ earlier))) (begun_append start node later earlier)
-    ∙ append_assoc (begun_branches start node earlier) (begun_branches (left start earlier) node later) (branch_of node entry.kind (left start (later ++ earlier)))
-    ∙ ap (λ (s : Start). begun_branches start node earlier ++ (begun_branches (left start earlier) node later ++ branch_of node entry.kind s)) (left_append start later earlier)
+    ap (λ (list : List Begun). list ++ branch_of node entry.kind (left_by start (later ++ earlier))) (begun_append start node later earlier)
+    ∙ append_assoc (begun_branches start node earlier) (begun_branches (left_by start earlier) node later) (branch_of node entry.kind (left_by start (later ++ earlier)))
+    ∙ ap (λ (s : Start). begun_branches start node earlier ++ (begun_branches (left_by start earlier) node later ++ branch_of node entry.kind s)) (left_append start later earlier)
 
 pub reverse_first : (entry : LogEntry) (entries : List LogEntry) → reverse (entry ∷ entries) ≡ reverse entries ++ entry ∷ []
 reverse_first entry entries = reverse_onto entries entry []
@@ -259,12 +259,12 @@ further_above low node start (entry ∷ entries) reaches (here, sound) =
     (entry_above low node entry.kind start reaches here)
     (further_above low node (next entry.kind start) entries (reaches_next low entry.kind start reaches) sound))
 
-further_reaches : (low : ℕ) (start : Start) (entries : List LogEntry) → StaysAbove low start → StaysAbove low (left start (reverse entries))
+further_reaches : (low : ℕ) (start : Start) (entries : List LogEntry) → StaysAbove low start → StaysAbove low (left_by start (reverse entries))
 further_reaches low start [] reaches = reaches
 further_reaches low start (entry ∷ entries) reaches =
     subst (StaysAbove low) (left_behind start entry entries) (further_reaches low (next entry.kind start) entries (reaches_next low entry.kind start reaches))
 
-pub sound_rest : (start : Start) (front rest : List LogEntry) → AllSound start (front ++ rest) → AllSound (left start (reverse front)) rest
+pub sound_rest : (start : Start) (front rest : List LogEntry) → AllSound start (front ++ rest) → AllSound (left_by start (reverse front)) rest
 sound_rest start [] rest sound = sound
 sound_rest start (entry ∷ front) rest (here, sound) =
     subst (λ (s : Start). AllSound s rest) (left_behind start entry front) (sound_rest (next entry.kind start) front rest sound)
@@ -282,14 +282,14 @@ new_above low last start (b ∷ begun) (here, all) = by (is_new last start b) (n
 mark_rises : (last : Key) (node : ℕ) (old new : NodeLog) (start : Start) (front rest : List LogEntry) → old.start ≡ start → new.start ≡ start
     → sound_entries old.start old.entries ≡ front → sound_entries new.start new.entries ≡ front ++ rest → AllSound start (front ++ rest) → MarkRises last node old new
 mark_rises last node old new start front rest old_start new_start old_is new_is sound =
-    let here : Start = left start (reverse front) in
+    let here : Start = left_by start (reverse front) in
     let low = node_low_water_mark here in
     let old_here : reached old ≡ here =
-    ap (λ (s : Start). left s (sound_history old)) old_start ∙ ap (λ (list : List LogEntry). left start (reverse list)) old_is in
-    let new_here : reached new ≡ left here (reverse rest) =
-    ap (λ (s : Start). left s (sound_history new)) new_start
-    ∙ ap (λ (list : List LogEntry). left start (reverse list)) new_is
-    ∙ ap (left start) (reverse-append front rest) ∙ left_append start (reverse rest) (reverse front) in
+    ap (λ (s : Start). left_by s (sound_history old)) old_start ∙ ap (λ (list : List LogEntry). left_by start (reverse list)) old_is in
+    let new_here : reached new ≡ left_by here (reverse rest) =
+    ap (λ (s : Start). left_by s (sound_history new)) new_start
+    ∙ ap (λ (list : List LogEntry). left_by start (reverse list)) new_is
+    ∙ ap (left_by start) (reverse-append front rest) ∙ left_append start (reverse rest) (reverse front) in
     let old_branches : node_branches last (node, old) ≡ new_branches last start (begun_branches start node (reverse front)) =
     ap (λ (s : Start). new_branches last s (begun_branches s node (sound_history old))) old_start
     ∙ ap (λ (list : List LogEntry). new_branches last start (begun_branches start node (reverse list))) old_is in
@@ -304,7 +304,7 @@ mark_rises last node old new start front rest old_start new_start old_is new_is 
       low =
           subst (λ (s : Start). node_low_water_mark s ≤ node_low_water_mark (reached new)) (sym old_here)
           (subst (λ (s : Start). low ≤ node_low_water_mark s) (sym new_here)
-          (reaches_low low (left here (reverse rest)) (further_reaches low here rest (low_reaches here))));
+          (reaches_low low (left_by here (reverse rest)) (further_reaches low here rest (low_reaches here))));
       more = new_branches last start (begun_branches here node (reverse rest));
       goes_on = new_all ∙ ap (λ (list : List CommittedBranch). list ++ new_branches last start (begun_branches here node (reverse rest))) (sym old_branches);
       above =

@@ -16,7 +16,7 @@ use Rattle.cdc_model.specs.declared.entry.EntryKind.TheVariants.{Prepare, OnePha
 use Rattle.cdc_model.specs.declared.fault.SortFault.TheVariants.{DoublePrepare, UnknownBranch, Undercut}
 use Rattle.cdc_model.specs.declared.node_log.NodeLog.{NodeLog}
 use Rattle.cdc_model.specs.Records.{Row, LogEntry, CommittedBranch, Transaction}
-use Rattle.cdc_model.specs.Start.{beginning, left}
+use Rattle.cdc_model.specs.Start.{beginning, left_by}
 use Rattle.cdc_model.specs.Watermark.{node_low_water_mark}
 use Rattle.cdc_model.specs.Soundness.{sort_fault}
 use Rattle.cdc_model.specs.Print.{digits, mark_text, statement_in}
@@ -80,7 +80,7 @@ overlapping = prepare 1 ∷ prepare 2 ∷ commit 2 20 ∷ commit 1 10 ∷ Beat 3
 
 -- a node's low-water mark behind its first entries
 abbrev mark_behind : ℕ → List EntryKind → ℕ
-mark_behind count kinds = node_low_water_mark (left beginning (reverse (map (at 0) (take count kinds))))
+mark_behind count kinds = node_low_water_mark (left_by beginning (reverse (map (at 0) (take count kinds))))
 
 -- an open branch's floor holds the low-water mark down
 held_by_a_floor : map (λ count. mark_behind count overlapping) (1 ∷ 2 ∷ 3 ∷ 4 ∷ 5 ∷ []) ≡ 0 ∷ 0 ∷ 0 ∷ 20 ∷ 30 ∷ []

@@ -15,7 +15,7 @@ use Rattle.cdc_model.specs.declared.fault.NodeFault.TheVariants.{File, Sort}
 use Rattle.cdc_model.specs.declared.fault.SortFault.TheVariants.{UnknownBranch}
 use Rattle.cdc_model.specs.declared.node_log.NodeLog.{NodeLog}
 use Rattle.cdc_model.specs.Records.{OpenBranch, Transaction}
-use Rattle.cdc_model.specs.Start.{beginning, find_open, left}
+use Rattle.cdc_model.specs.Start.{beginning, find_open, left_by}
 use Rattle.cdc_model.specs.Soundness.{log_fault}
 use Rattle.cdc_model.specs.Print.{digits, mark_text, statement_in}
 use Rattle.cdc_model.specs.Transaction.{settled_transactions}
@@ -25,7 +25,7 @@ use Rattle.cdc_model.proofs.Worked.{id, at, log, prepare, commit, rows, prepare_
 -- ---- open branches
 
 abbrev opened_after : List EntryKind → List OpenBranch
-opened_after kinds = (left beginning (reverse (map (at 0) kinds))).opened
+opened_after kinds = (left_by beginning (reverse (map (at 0) kinds))).opened
 
 -- the number is the Prepare's own, and the floor the mark before it, though an older open branch has a lesser floor
 number_and_floor : map (λ xid. find_open xid (opened_after (Beat 5 ∷ prepare_rows 1 ∷ Beat 7 ∷ prepare 2 ∷ Beat 9 ∷ []))) (id 1 ∷ id 2 ∷ id 3 ∷ [])

@@ -14,7 +14,7 @@ use Rattle.cdc_base.specs.Xid.{same_xid, xid_order}
 use Rattle.cdc_model.specs.declared.entry.EntryKind.{EntryKind}
 use Rattle.cdc_model.specs.declared.entry.EntryKind.TheVariants.{Prepare, OnePhase, Commit, Rollback, Plain, Beat}
 use Rattle.cdc_model.specs.Records.{OpenBranch, Start}
-use Rattle.cdc_model.specs.Start.{without, enter, opened_by, left}
+use Rattle.cdc_model.specs.Start.{without, enter, opened_by, left_by}
 use Rattle.cdc_model.specs.Openings.{IsXidBelow, AscendByXid, OpenBranchesAscend}
 use Rattle.cdc_model.proofs.OpenBranches.{same_xid_laws}
 use Rattle.cdc_model.proofs.SameXid.{no_test, xid_of}
@@ -178,4 +178,4 @@ ascend_next (Beat timestamp) start ascend = ascend
 
 pub open_branches_ascend : OpenBranchesAscend
 open_branches_ascend start [] ascend = ascend
-open_branches_ascend start (entry ∷ earlier) ascend = ascend_next entry.kind (left start earlier) (open_branches_ascend start earlier ascend)
+open_branches_ascend start (entry ∷ earlier) ascend = ascend_next entry.kind (left_by start earlier) (open_branches_ascend start earlier ascend)

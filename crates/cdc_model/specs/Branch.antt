@@ -7,7 +7,7 @@ use Rattle.cdc_base.specs.Key.{key_order}
 use Rattle.cdc_model.specs.declared.entry.EntryKind.{EntryKind}
 use Rattle.cdc_model.specs.declared.entry.EntryKind.TheVariants.{Prepare, OnePhase, Commit, Rollback, Plain, Beat}
 use Rattle.cdc_model.specs.Records.{LogEntry, CommittedBranch, OpenBranch, Start}
-use Rattle.cdc_model.specs.Start.{find_open, left}
+use Rattle.cdc_model.specs.Start.{find_open, left_by}
 
 -- a committed branch beside the number of the entry that began it
 abbrev pub Begun : Type 0
@@ -35,7 +35,7 @@ branch_of node (Beat timestamp) start = []
 -- all branches that a history commits, the oldest first
 abbrev pub begun_branches : Start → ℕ → List LogEntry → List Begun
 begun_branches start node [] = []
-begun_branches start node (entry ∷ earlier) = begun_branches start node earlier ++ branch_of node entry.kind (left start earlier)
+begun_branches start node (entry ∷ earlier) = begun_branches start node earlier ++ branch_of node entry.kind (left_by start earlier)
 
 -- a branch that began at or behind the starting point, and whose key is above the last one
 abbrev pub is_new : Key → Start → Begun → Bool

@@ -7,7 +7,7 @@ use Rattle.cdc_base.specs.declared.xid.Xid.{Xid}
 use Rattle.cdc_model.specs.declared.entry.EntryKind.{EntryKind}
 use Rattle.cdc_model.specs.declared.entry.EntryKind.TheVariants.{Prepare, OnePhase, Commit, Rollback, Plain, Beat}
 use Rattle.cdc_model.specs.Records.{Row, LogEntry, OpenBranch, Start}
-use Rattle.cdc_model.specs.Start.{left}
+use Rattle.cdc_model.specs.Start.{left_by}
 use Rattle.cdc_model.specs.Watermark.{high_water_mark}
 use Rattle.cdc_model.specs.Soundness.{entry_fault}
 use Rattle.cdc_model.specs.Branch.{Begun, branch_of, begun_branches, new_branches, committed_branches}
@@ -35,7 +35,7 @@ IsCommitted start node earlier (Beat timestamp) given = given ≡ []
 -- law: a sound Commit, each OnePhase and each Plain commit exactly one branch, and every other entry none
 abbrev pub EachCommitGivesOneBranch : Type 0
 EachCommitGivesOneBranch = (start : Start) (node : ℕ) (earlier : List LogEntry) (entry : LogEntry)
-    → entry_fault entry.kind (left start earlier) ≡ None
+    → entry_fault entry.kind (left_by start earlier) ≡ None
     → (given : List Begun)
     × (begun_branches start node (entry ∷ earlier) ≡ begun_branches start node earlier ++ given)
     × IsCommitted start node earlier entry.kind given
@@ -44,7 +44,7 @@ EachCommitGivesOneBranch = (start : Start) (node : ℕ) (earlier : List LogEntry
 abbrev pub OneEntryMore : Type 0
 OneEntryMore = (last : Key) (start : Start) (node : ℕ) (earlier : List LogEntry) (entry : LogEntry)
     → committed_branches last start node (entry ∷ earlier)
-    ≡ committed_branches last start node earlier ++ new_branches last start (branch_of node entry.kind (left start earlier))
+    ≡ committed_branches last start node earlier ++ new_branches last start (branch_of node entry.kind (left_by start earlier))
 
 -- a branch that was open before the starting point: its rows aren't read, and its Prepare has no number here
 pub record IsHeld (branch : OpenBranch) : Type 0 where
@@ -61,4 +61,4 @@ pub record IsStart (start : Start) : Type 0 where
 abbrev pub HeldCommitGivesNone : Type 0
 HeldCommitGivesNone = (last : Key) (start : Start) (node : ℕ) (earlier : List LogEntry) (xid : Xid) (timestamp seconds : ℕ)
     → IsStart start → SayNothingOf xid earlier
-    → new_branches last start (branch_of node (Commit xid timestamp seconds) (left start earlier)) ≡ []
+    → new_branches last start (branch_of node (Commit xid timestamp seconds) (left_by start earlier)) ≡ []

@@ -5,7 +5,7 @@ use Rattle.cdc_model.specs.declared.fault.SortFault.{SortFault}
 use Rattle.cdc_model.specs.declared.fault.NodeFault.{NodeFault}
 use Rattle.cdc_model.specs.declared.fault.NodeFault.TheVariants.{Sort}
 use Rattle.cdc_model.specs.Records.{LogEntry, Start}
-use Rattle.cdc_model.specs.Start.{left}
+use Rattle.cdc_model.specs.Start.{left_by}
 use Rattle.cdc_model.specs.Soundness.{entry_fault, AllSound, sort_fault, log_fault}
 
 -- the first unsound entry of some: those before it are sound, and this is its fault behind them, at its place
@@ -15,7 +15,7 @@ pub record IsFirstUnsound (start : Start) (entries : List LogEntry) (at : Place)
   pub behind : List LogEntry
   pub in_order : entries ≡ before ++ unsound ∷ behind
   pub sound : AllSound start before
-  pub wrong : entry_fault unsound.kind (left start (reverse before)) ≡ Some fault
+  pub wrong : entry_fault unsound.kind (left_by start (reverse before)) ≡ Some fault
   pub place : at ≡ unsound.at
 
 -- law: entries have no fault exactly where all are sound; else theirs is the first unsound one's

@@ -1,5 +1,5 @@
 -- The grammar of a node's log: which events in a row make an entry, or none.
-use Rattle.std.specs.Prelude.{◌≡◌, ◌≢◌, ◌⊎◌, ℕ, true, List, [], ◌∷◌, ◌++◌, Option, Some, None}
+use Rattle.std.specs.Prelude.{◌≡◌, ◌≢◌, ◌⊎◌, ℕ, Bool, true, List, [], ◌∷◌, ◌++◌, Option, Some, None}
 use Rattle.std.specs.List.{AllByRecursion, flat_map, filter_map}
 use Rattle.cdc_base.specs.declared.xid.Xid.{Xid}
 use Rattle.cdc_model.specs.declared.entry.EntryKind.{EntryKind}
@@ -10,6 +10,10 @@ use Rattle.cdc_model.specs.Sign.{Sign, SignedEvent, CommitTime, BeatTime, Ddl, N
 -- an event has this sign
 abbrev pub Says : SignedEvent → Sign → Type 0
 Says signed sign = signed.sign ≡ sign
+
+-- each of some events has a sign that passes a test
+abbrev pub AllSigns : (Sign → Bool) → List SignedEvent → Type 0
+AllSigns test events = AllByRecursion (λ (signed : SignedEvent). test (signed.sign) ≡ true) events
 
 -- the rows among events
 abbrev pub rows_in : List SignedEvent → List Row
@@ -27,11 +31,11 @@ rows_of (OneStatement row) = row ∷ []
 
 -- events inside an XA group: none marked, and the rows among them; or one statement among silent ones
 abbrev pub IsGroupBody : Content → List SignedEvent → Type 0
-IsGroupBody (TableRows rows) events = AllByRecursion (λ (signed : SignedEvent). is_unmarked (signed.sign) ≡ true) events × (rows ≡ rows_in events)
+IsGroupBody (TableRows rows) events = AllSigns is_unmarked events × (rows ≡ rows_in events)
 IsGroupBody (OneStatement row) events =
     (before after : List SignedEvent) × (statement : SignedEvent) × (events ≡ before ++ statement ∷ after) × Says statement (Ddl row)
-    × AllByRecursion (λ (signed : SignedEvent). is_silent (signed.sign) ≡ true) before
-    × AllByRecursion (λ (signed : SignedEvent). is_silent (signed.sign) ≡ true) after
+    × AllSigns is_silent before
+    × AllSigns is_silent after
 
 -- an XA group before its end
 abbrev pub IsBegunXa : Xid → Content → List SignedEvent → Type 0
@@ -42,19 +46,19 @@ IsBegunXa xid content events =
 abbrev pub IsEndedXa : Xid → Content → List SignedEvent → Type 0
 IsEndedXa xid content events =
     (begun quiets : List SignedEvent) × (end : SignedEvent) × (events ≡ begun ++ end ∷ quiets) × IsBegunXa xid content begun
-    × Says end (XaEndText xid) × AllByRecursion (λ (signed : SignedEvent). is_quiet (signed.sign) ≡ true) quiets
+    × Says end (XaEndText xid) × AllSigns is_quiet quiets
 
 -- a local transaction before its end
 abbrev pub IsBegunLocal : List Row → List SignedEvent → Type 0
 IsBegunLocal rows events =
     (begin : SignedEvent) × (body : List SignedEvent) × (events ≡ begin ∷ body) × Says begin BeginText
-    × AllByRecursion (λ (signed : SignedEvent). is_inner (signed.sign) ≡ true) body × (rows ≡ rows_in body)
+    × AllSigns is_inner body × (rows ≡ rows_in body)
 
 -- a commit timestamp and ids of transactions behind it
 abbrev pub IsStamp : ℕ → List SignedEvent → Type 0
 IsStamp timestamp events =
     (stamp : SignedEvent) × (gtids : List SignedEvent) × (events ≡ stamp ∷ gtids) × Says stamp (CommitTime timestamp)
-    × AllByRecursion (λ (signed : SignedEvent). is_gtid (signed.sign) ≡ true) gtids
+    × AllSigns is_gtid gtids
 
 -- the events of an entry, its last event apart
 abbrev pub IsEntryOf : EntryKind → List SignedEvent → SignedEvent → Type 0

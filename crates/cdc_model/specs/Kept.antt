@@ -3,7 +3,6 @@ use Rattle.std.specs.Prelude.{◌≡◌, ◌+◌, ◌^◌, ◌<◌, ◌≤◌, I
 use Rattle.std.specs.List.{AllByRecursion}
 use Rattle.cdc_base.specs.declared.key.Key.{Key}
 use Rattle.cdc_base.specs.declared.key.Key.TheVariants.{Shared, Plain as PlainKey}
-use Rattle.cdc_event.specs.Event.{FitsBody, has_kind, body_bytes}
 use Rattle.cdc_model.specs.declared.entry.EntryKind.{EntryKind}
 use Rattle.cdc_model.specs.declared.entry.EntryKind.TheVariants.{Prepare, OnePhase, Commit, Rollback, Plain, Beat}
 use Rattle.cdc_model.specs.declared.entry.Entry.TheInside.{Inside as InsideEntry}
@@ -12,15 +11,9 @@ use Rattle.cdc_model.specs.declared.transaction.Txn.TheInside.{Inside as InsideT
 use Rattle.cdc_model.specs.declared.opened.Opened.TheInside.{Inside as InsideOpened}
 use Rattle.cdc_model.specs.declared.start.StartingPoint.TheInside.{Inside as InsideStart}
 use Rattle.cdc_model.specs.declared.unit.Unit.TheInside.{Inside as InsideUnit}
-use Rattle.cdc_model.specs.Records.{Row, LogEntry, CommittedBranch, Transaction, OpenBranch, Start, OutputUnit}
+pub use Rattle.cdc_model.specs.Row.{IsRow}
+use Rattle.cdc_model.specs.Records.{LogEntry, CommittedBranch, Transaction, OpenBranch, Start, OutputUnit}
 use Rattle.cdc_model.specs.Layout.{begins_file, next_file, next_place}
-
--- a row is an event of its type of at most 2^27 bytes
-pub record IsRow (row : Row) : Type 0 where
-  pub fits : FitsBody row.1
-  pub kind : IsTrue (has_kind row.1 row.0)
-  pub numbered : row.0 < 256
-  pub most : 19 + length (body_bytes row.1) ≤ 2 ^ 27
 
 -- timestamps are below 2^63, and rows are events
 abbrev pub IsKeptKind : EntryKind → Type 0

@@ -1,3 +1,5 @@
+pub mod Row
+pub mod Run
 pub mod Records
 pub mod Layout
 pub mod Kept

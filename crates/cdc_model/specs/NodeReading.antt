@@ -6,7 +6,7 @@ use Rattle.std.specs.declared.cmp.Ordering.TheVariants.{Less}
 use Rattle.cdc_base.specs.declared.key.Key.{Key}
 use Rattle.cdc_base.specs.Key.{key_order}
 use Rattle.cdc_model.specs.Records.{LogEntry, CommittedBranch, Start}
-use Rattle.cdc_model.specs.Start.{left}
+use Rattle.cdc_model.specs.Start.{left_by}
 use Rattle.cdc_model.specs.Watermark.{node_low_water_mark}
 use Rattle.cdc_model.specs.Soundness.{entry_fault}
 use Rattle.cdc_model.specs.Branch.{committed_branches, is_settled}
@@ -15,7 +15,7 @@ use Rattle.cdc_model.specs.Feed.{NodeFeed, settled_branches, FeedsFrom, FeedGrow
 
 -- a node's low-water mark behind a history
 abbrev pub low_behind : Start → List LogEntry → ℕ
-low_behind start history = node_low_water_mark (left start history)
+low_behind start history = node_low_water_mark (left_by start history)
 
 -- the branches that a node's own mark settles behind a history, with keys above a last one
 abbrev pub node_settled : Key → Start → ℕ → List LogEntry → List CommittedBranch
@@ -50,7 +50,7 @@ pub record ReadsOn (last : Key) (start : Start) (node : ℕ) (history : List Log
 -- law: each sound entry is read on so: the mark doesn't fall, and a feed stays one
 abbrev pub FeedReadsOn : Type 0
 FeedReadsOn = (last : Key) (start : Start) (node : ℕ) (history : List LogEntry) (entry : LogEntry)
-    → entry_fault entry.kind (left start history) ≡ None → ReadsOn last start node history entry
+    → entry_fault entry.kind (left_by start history) ≡ None → ReadsOn last start node history entry
 
 -- a branch more: the feed is one still, and the bound that was told doesn't settle that branch
 pub record GivesOn (mark : ℕ) (committed : List CommittedBranch) (feed : NodeFeed) (branch : CommittedBranch) : Type 0 where

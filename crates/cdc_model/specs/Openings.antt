@@ -7,7 +7,7 @@ use Rattle.std.specs.declared.cmp.Ordering.TheVariants.{Less}
 use Rattle.cdc_base.specs.declared.xid.Xid.{Xid}
 use Rattle.cdc_model.specs.declared.entry.EntryKind.TheVariants.{Prepare}
 use Rattle.cdc_model.specs.Records.{Row, LogEntry, OpenBranch, Start}
-use Rattle.cdc_model.specs.Start.{find_open, left}
+use Rattle.cdc_model.specs.Start.{find_open, left_by}
 use Rattle.cdc_model.specs.Watermark.{high_water_mark, verdict}
 
 -- entries that neither prepare a branch of this xid nor end one
@@ -42,7 +42,7 @@ StandsOpen start history xid branch =
 -- law: the open branch of an xid is the one that its newest Prepare opened, with that Prepare's number, its rows and the mark before it
 abbrev pub OpenIsNewestPrepare : Type 0
 OpenIsNewestPrepare = (start : Start) (history : List LogEntry) (xid : Xid) (branch : OpenBranch)
-    → (find_open xid (left start history).opened ≡ Some branch) ↔ StandsOpen start history xid branch
+    → (find_open xid (left_by start history).opened ≡ Some branch) ↔ StandsOpen start history xid branch
 
 -- xids go by global id, then by qualifier, then by format
 abbrev pub IsXidBelow : Xid → Xid → Type 0
@@ -59,4 +59,4 @@ AscendByXid (branch ∷ others) =
 
 -- law: open branches stay in order of their xids, each once, whatever entries come
 abbrev pub OpenBranchesAscend : Type 0
-OpenBranchesAscend = (start : Start) (history : List LogEntry) → AscendByXid start.opened → AscendByXid (left start history).opened
+OpenBranchesAscend = (start : Start) (history : List LogEntry) → AscendByXid start.opened → AscendByXid (left_by start history).opened

@@ -3,13 +3,9 @@ use Rattle.std.specs.Prelude.{ℕ, List}
 use Rattle.cdc_base.specs.declared.place.Place.{Place}
 use Rattle.cdc_base.specs.declared.key.Key.{Key}
 use Rattle.cdc_base.specs.declared.xid.Xid.{Xid}
-use Rattle.cdc_event.specs.declared.body.Body.{Body}
 use Rattle.cdc_model.specs.declared.entry.EntryKind.{EntryKind}
 use Rattle.cdc_model.specs.declared.layout.Layout.{Layout}
-
--- a row: an event's type and body
-abbrev pub Row : Type 0
-Row = ℕ × Body
+pub use Rattle.cdc_model.specs.Row.{Row}
 
 -- an entry of a node's log
 pub record LogEntry : Type 0 where

@@ -11,7 +11,7 @@ use Rattle.cdc_model.specs.declared.fault.NodeFault.{NodeFault}
 use Rattle.cdc_model.specs.declared.fault.NodeFault.TheVariants.{Sort}
 use Rattle.cdc_model.specs.declared.node_log.NodeLog.{NodeLog}
 use Rattle.cdc_model.specs.Records.{LogEntry, OpenBranch, Start}
-use Rattle.cdc_model.specs.Start.{left}
+use Rattle.cdc_model.specs.Start.{left_by}
 use Rattle.cdc_model.specs.Watermark.{least, node_low_water_mark}
 use Rattle.cdc_model.specs.Soundness.{sound_entries, log_fault, reached}
 use Rattle.cdc_model.specs.Branch.{Begun, begun_branches, is_new}
@@ -51,7 +51,7 @@ start_at point = record { entry = point.entry; mark = point.mark; opened = map h
 abbrev pub point_behind : RestartPoint → List LogEntry → RestartPoint
 point_behind from [] = from
 point_behind from (entry ∷ earlier) =
-    let here = left (start_at from) (entry ∷ earlier) in
+    let here = left_by (start_at from) (entry ∷ earlier) in
     record { entry = here.entry; place = entry.end; mark = here.mark; checksum = entry.checksum; held = map held_of here.opened }
 
 -- the point before the entry of a number, among entries read from another point, the oldest first
@@ -67,7 +67,7 @@ IsAtMost key last = is_gt (key_order key last) ≡ false
 pub record IsRestartEntry (last : Key) (start : Start) (node : ℕ) (history : List LogEntry) (number : ℕ) : Type 0 where
   pub first : start.entry ≤ number
   pub most : number ≤ start.entry + length history
-  pub ended : AllByRecursion (λ (branch : OpenBranch). start.entry ≤ branch.entry → number ≤ branch.entry) (left start history).opened
+  pub ended : AllByRecursion (λ (branch : OpenBranch). start.entry ≤ branch.entry → number ≤ branch.entry) (left_by start history).opened
   pub below : AllByRecursion (λ (b : Begun). start.entry ≤ b.0 → b.0 < number → IsAtMost b.1.key last) (begun_branches start node history)
 
 -- a restart point of a node for a key, by its sound entries as they are read from another point: its number is sound, and all its
@@ -85,8 +85,8 @@ pub record IsLatestPoint (last : Key) (from : RestartPoint) (node : ℕ) (entrie
 -- which branches with greater keys began
 abbrev pub latest_number : Key → Start → ℕ → List LogEntry → ℕ
 latest_number last start node history =
-    least (left start history).entry
-    (map (λ (branch : OpenBranch). branch.entry) (filter (λ (branch : OpenBranch). nat_le start.entry branch.entry) (left start history).opened)
+    least (left_by start history).entry
+    (map (λ (branch : OpenBranch). branch.entry) (filter (λ (branch : OpenBranch). nat_le start.entry branch.entry) (left_by start history).opened)
     ++ map (λ (b : Begun). b.0) (filter (is_new last start) (begun_branches start node history)))
 
 -- the latest restart point itself

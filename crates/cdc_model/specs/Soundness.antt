@@ -8,7 +8,7 @@ use Rattle.cdc_model.specs.declared.fault.SortFault.{SortFault}
 use Rattle.cdc_model.specs.declared.fault.SortFault.TheVariants.{DoublePrepare, UnknownBranch, Undercut}
 use Rattle.cdc_model.specs.declared.node_log.NodeLog.{NodeLog}
 use Rattle.cdc_model.specs.Records.{LogEntry, OpenBranch, Start}
-use Rattle.cdc_model.specs.Start.{find_open, next, left}
+use Rattle.cdc_model.specs.Start.{find_open, next, left_by}
 
 -- a timestamp must be above its branch's floor
 abbrev pub undercut : ℕ → ℕ → Option SortFault
@@ -66,7 +66,7 @@ sound_history log = reverse (sound_entries log.start log.entries)
 
 -- where a log's reading ends
 abbrev pub reached : NodeLog → Start
-reached log = left log.start (sound_history log)
+reached log = left_by log.start (sound_history log)
 
 -- a list of entries of which each is sound behind those before it
 abbrev pub AllSound : Start → List LogEntry → Type 0
@@ -83,7 +83,7 @@ pub record IsLongestSoundFront (start : Start) (entries sound : List LogEntry) :
   pub rest : List LogEntry
   pub front : entries ≡ sound ++ rest
   pub sound_all : AllSound start sound
-  pub longest : EndsAt (left start (reverse sound)) rest
+  pub longest : EndsAt (left_by start (reverse sound)) rest
 
 -- law: the sound entries are the longest sound front
 abbrev pub SoundIsLongest : Type 0

@@ -52,6 +52,6 @@ next kind start =
     record { entry = start.entry + 1; mark = max (stamp kind) start.mark; opened = opened_by kind start }
 
 -- where it stands behind a history
-abbrev pub left : Start → List LogEntry → Start
-left start [] = start
-left start (entry ∷ earlier) = next entry.kind (left start earlier)
+abbrev pub left_by : Start → List LogEntry → Start
+left_by start [] = start
+left_by start (entry ∷ earlier) = next entry.kind (left_by start earlier)

@@ -5,7 +5,7 @@ use Rattle.cdc_model.specs.declared.entry.EntryKind.{EntryKind}
 use Rattle.cdc_model.specs.declared.entry.EntryKind.TheVariants.{Prepare, OnePhase, Commit, Rollback, Plain, Beat}
 use Rattle.cdc_model.specs.Records.{LogEntry, Start}
 use Rattle.cdc_base.specs.Xid.{same_xid}
-use Rattle.cdc_model.specs.Start.{stamp, find_open, left}
+use Rattle.cdc_model.specs.Start.{stamp, find_open, left_by}
 
 -- the least of some numbers and a first one
 abbrev pub least : ℕ → List ℕ → ℕ
@@ -14,7 +14,7 @@ least most (number ∷ numbers) = least (min most number) numbers
 
 -- a node's high-water mark: the greatest timestamp that its entries brought
 abbrev pub high_water_mark : Start → List LogEntry → ℕ
-high_water_mark start history = (left start history).mark
+high_water_mark start history = (left_by start history).mark
 
 -- a node's low-water mark: no later entry can commit a branch at or below it
 abbrev pub node_low_water_mark : Start → ℕ
@@ -48,11 +48,11 @@ is_open_branch xid before (entry ∷ earlier) = verdict_or (verdict xid entry.ki
 -- law: the open branches are exactly those whose newest Prepare, Commit or Rollback is a Prepare
 abbrev pub OpenAsNewestSays : Type 0
 OpenAsNewestSays = (xid : Xid) (start : Start) (history : List LogEntry)
-    → is_some (find_open xid (left start history).opened) ≡ is_open_branch xid (is_some (find_open xid start.opened)) history
+    → is_some (find_open xid (left_by start history).opened) ≡ is_open_branch xid (is_some (find_open xid start.opened)) history
 
 -- law: entries are numbered one after another
 abbrev pub NumbersCount : Type 0
-NumbersCount = (start : Start) (history : List LogEntry) → (left start history).entry ≡ start.entry + length history
+NumbersCount = (start : Start) (history : List LogEntry) → (left_by start history).entry ≡ start.entry + length history
 
 -- a number that is at most each of some, and one of them
 pub record IsLeast (number : ℕ) (numbers : List ℕ) : Type 0 where

@@ -2,9 +2,8 @@
 
 ghost use Rattle.std.specs.Prelude.{◌≡◌, IfOk};
 
-use crate::rows::{RowList, share_rows};
+use crate::rows::RowList;
 use cdc_base::{Items, Key, Memory};
-use std::alloc::Global;
 use std::marker::Model;
 
 /// A committed branch of a transaction: its key, the number of the entry that committed it, that entry's
@@ -34,14 +33,14 @@ impl Model for Branch {
 
 impl Branch {
     /// An equal branch over the same rows.
-    pub fn share(&self, alloc: Global) -> Result<Branch, Memory>
+    pub fn share(&self) -> Result<Branch, Memory>
         ensures { IfOk result (λ shared. shared ≡ self.now) }
     {
         Ok(Branch {
             key: self.key,
             entry: self.entry,
             seconds: self.seconds,
-            rows: share_rows(alloc, self.rows.as_slice())?,
+            rows: self.rows.share()?,
         })
     }
 }

@@ -19,7 +19,9 @@ mod opened;
 mod order_laws;
 mod reading_laws;
 mod restart_laws;
+mod row_view;
 mod rows;
+mod run;
 mod start;
 mod transaction;
 mod unit;
@@ -63,7 +65,9 @@ pub use restart_laws::{
     restarted_points_are_the_wholes, resumed_latest_is_the_wholes, sound_numbers_end,
     start_is_restart_point,
 };
-pub use rows::{RowList, share_rows};
+pub use row_view::{RowView, Rows};
+pub use rows::RowList;
+pub use run::RowRun;
 pub use start::StartingPoint;
 pub use transaction::{Txn, TxnList};
 pub use unit::Unit;

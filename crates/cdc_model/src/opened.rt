@@ -2,7 +2,7 @@
 
 ghost use Rattle.std.specs.Prelude.{◌≡◌, IfOk};
 
-use crate::rows::{RowList, share_rows};
+use crate::rows::RowList;
 use cdc_base::{Items, Memory, Xid};
 use std::alloc::Global;
 use std::marker::Model;
@@ -34,14 +34,14 @@ impl Model for Opened {
 
 impl Opened {
     /// An equal open branch over the same rows.
-    pub fn share(&self, alloc: Global) -> Result<Opened, Memory>
+    pub fn share(&self) -> Result<Opened, Memory>
         ensures { IfOk result (λ shared. shared ≡ self.now) }
     {
         Ok(Opened {
             xid: self.xid,
             floor: self.floor,
             entry: self.entry,
-            rows: share_rows(alloc, self.rows.as_slice())?,
+            rows: self.rows.share()?,
         })
     }
 }
@@ -52,7 +52,7 @@ pub(crate) fn share_opened(alloc: Global, opened: &[Opened]) -> Result<OpenList,
 {
     let mut shared = OpenList::new(alloc);
     for branch in opened {
-        shared.push(branch.share(alloc)?)?;
+        shared.push(branch.share()?)?;
     }
     Ok(shared)
 }

@@ -23,6 +23,7 @@ request_behind size sequence bytes =
     else if nat_lt (length bytes) size then CutShort
     else Whole sequence (take size bytes) (drop size bytes)
 
+-- the request at the front of a stream of packets
 abbrev pub next_request : List ℕ → Request
 next_request [] = NoRequest
 next_request (low ∷ []) = CutShort

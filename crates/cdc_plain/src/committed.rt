@@ -11,12 +11,11 @@ use crate::next_start::advance;
 use crate::open_branches::find_open;
 use crate::soundness::sound_count;
 use cdc_base::{Key, Memory, key_cmp};
-use cdc_model::{Branch, BranchList, Entry, EntryKind, NodeLog, Opened, StartingPoint, share_rows};
+use cdc_model::{Branch, BranchList, Entry, EntryKind, NodeLog, Opened, StartingPoint};
 use std::alloc::Global;
 
 /// An open branch as its commit leaves it, beside the number of the entry that began it.
 fn committed(
-    alloc: Global,
     key: Key,
     entry: u64,
     seconds: u32,
@@ -25,7 +24,7 @@ fn committed(
     requires { IsKeptKey key }
     ensures { IfOk result (λ b. b ∷ [] ≡ branch.committed key entry seconds (Some opened.now)) }
 {
-    let rows = share_rows(alloc, opened.rows.as_slice())?;
+    let rows = opened.rows.share()?;
     Ok((
         opened.entry,
         Branch {
@@ -39,7 +38,6 @@ fn committed(
 
 /// The branch that an entry commits, beside the number of the entry that began it, or none.
 fn branch_of(
-    alloc: Global,
     node: u32,
     entry: &Entry,
     start: &StartingPoint,
@@ -60,7 +58,7 @@ fn branch_of(
                 timestamp: *timestamp,
                 gtrid: xid.gtrid,
             };
-            let rows = share_rows(alloc, rows.as_slice())?;
+            let rows = rows.share()?;
             let branch = Branch {
                 key,
                 entry: start.entry,
@@ -81,7 +79,7 @@ fn branch_of(
             match find_open(start.opened.as_slice(), xid) {
                 None => Ok(None),
                 Some(opened) => {
-                    let begun = committed(alloc, key, start.entry, *seconds, opened)?;
+                    let begun = committed(key, start.entry, *seconds, opened)?;
                     Ok(Some(begun))
                 }
             }
@@ -92,7 +90,7 @@ fn branch_of(
                 node,
                 entry: start.entry,
             };
-            let rows = share_rows(alloc, rows.as_slice())?;
+            let rows = rows.share()?;
             let branch = Branch {
                 key,
                 entry: start.entry,
@@ -113,7 +111,6 @@ fn is_new(last: &Key, first: &StartingPoint, begun: &(u64, Branch)) -> bool
 
 /// Appends the branch that an entry commits, where it is new. On `Memory` the list is unchanged.
 fn add_branch(
-    alloc: Global,
     branches: &mut BranchList,
     last: &Key,
     first: &StartingPoint,
@@ -125,7 +122,7 @@ fn add_branch(
     requires last { node ≤ 256 }
     ensures { OnOk result (branches.new ≡ branches.old ++ branch.new_branches last.now first.now (branch.branch_of node entry.now.kind start.now)) }
 {
-    if let Some(begun) = branch_of(alloc, node, entry, start)? {
+    if let Some(begun) = branch_of(node, entry, start)? {
         if is_new(last, first, &begun) {
             branches.push(begun.1)?;
         }
@@ -149,8 +146,8 @@ fn add_committed(
 {
     let mut start = first.share(alloc)?;
     for entry in entries {
-        add_branch(alloc, branches, last, first, node, entry, &start)?;
-        advance(alloc, &mut start, entry)?;
+        add_branch(branches, last, first, node, entry, &start)?;
+        advance(&mut start, entry)?;
     }
     Ok(())
 }

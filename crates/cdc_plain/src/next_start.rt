@@ -5,11 +5,10 @@ ghost use Rattle.cdc_model.specs.Start.{next};
 
 use crate::open_branches::{enter, without};
 use cdc_base::Memory;
-use cdc_model::{Entry, EntryKind, Opened, StartingPoint, share_rows};
-use std::alloc::Global;
+use cdc_model::{Entry, EntryKind, Opened, StartingPoint};
 
 /// Goes one entry on. On `Memory` the starting point is spent.
-pub fn advance(alloc: Global, start: &mut StartingPoint, entry: &Entry) -> Result<(), Memory>
+pub fn advance(start: &mut StartingPoint, entry: &Entry) -> Result<(), Memory>
     requires { start.old.entry + 1 < 2 ^ 64 }
     ensures { OnOk result (start.new ≡ next entry.now.kind start.old) }
 {
@@ -20,7 +19,7 @@ pub fn advance(alloc: Global, start: &mut StartingPoint, entry: &Entry) -> Resul
                 xid: *xid,
                 floor,
                 entry: start.entry,
-                rows: share_rows(alloc, rows.as_slice())?,
+                rows: rows.share()?,
             };
             without(&mut start.opened, xid);
             enter(&mut start.opened, branch)?;

@@ -35,7 +35,7 @@ fn branches_of(alloc: Global, key: &Key, branches: &[Branch]) -> Result<BranchLi
     let mut own = BranchList::new(alloc);
     for branch in branches {
         if key_cmp(key, &branch.key).is_eq() {
-            own.push(branch.share(alloc)?)?;
+            own.push(branch.share()?)?;
         }
     }
     Ok(own)

@@ -1,7 +1,7 @@
 //! Which entries of a log are sound.
 
 ghost use Rattle.std.specs.Prelude.{◌≡◌, ◌+◌, ◌<◌, ◌≤◌, ◌^◌, length, take, reverse, IfOk};
-ghost use Rattle.cdc_model.specs.Start.{left};
+ghost use Rattle.cdc_model.specs.Start.{left_by};
 ghost use Rattle.cdc_model.specs.Soundness.{IsCounted};
 ghost use Rattle.cdc_model.specs.Soundness as soundness;
 
@@ -60,7 +60,7 @@ pub fn sound_count(alloc: Global, log: &NodeLog) -> Result<usize, Memory>
         if entry_fault(&entry.kind, &start).is_some() {
             return Ok(count);
         }
-        advance(alloc, &mut start, entry)?;
+        advance(&mut start, entry)?;
     }
     Ok(entries.len())
 }
@@ -68,11 +68,11 @@ pub fn sound_count(alloc: Global, log: &NodeLog) -> Result<usize, Memory>
 /// Where entries lead from a starting point.
 fn follow(alloc: Global, first: &StartingPoint, entries: &[Entry]) -> Result<StartingPoint, Memory>
     requires { first.now.entry + length entries.now < 2 ^ 64 }
-    ensures { IfOk result (λ start. start ≡ left first.now (reverse entries.now)) }
+    ensures { IfOk result (λ start. start ≡ left_by first.now (reverse entries.now)) }
 {
     let mut start = first.share(alloc)?;
     for entry in entries {
-        advance(alloc, &mut start, entry)?;
+        advance(&mut start, entry)?;
     }
     Ok(start)
 }

@@ -8,4 +8,4 @@ mod names;
 mod table;
 
 pub use names::{Names, NamesError};
-pub use table::{rename, renamed_body, renamed_length};
+pub use table::{rename, renamed_view, renamed_view_length};

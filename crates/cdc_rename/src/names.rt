@@ -1,6 +1,6 @@
 //! The rules, at most one for each table.
 
-ghost use Rattle.std.specs.Prelude.{◌≡◌, ◌↔◌, [], IsSome, IfSome, OnOk, OnErr, IfOk, IfErr};
+ghost use Rattle.std.specs.Prelude.{◌≡◌, ◌==◌, ◌↔◌, [], length, IsSome, IfSome, OnOk, OnErr, IfOk, IfErr};
 ghost use Rattle.std.specs.Option.{option_copied};
 ghost use Rattle.cdc_event.specs.Table.{rule_for};
 ghost use Rattle.cdc_rename.specs.Names.{IsRule, Adds, IsRuleAt, IsGapFor, table_of, table_order};
@@ -57,6 +57,13 @@ impl Names {
             alloc,
             rules: Vec::new(alloc),
         }
+    }
+
+    /// Whether there is no rule.
+    pub fn is_empty(&self) -> bool
+        ensures { result ≡ (length self.now == 0) }
+    {
+        self.rules.is_empty()
     }
 
     /// The allocator that the rules are kept with.

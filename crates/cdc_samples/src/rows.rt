@@ -6,9 +6,9 @@ ghost use Rattle.cdc_model.specs.Kept.{IsRow};
 ghost use Rattle.cdc_rename.specs.Names.{IsTableMap};
 
 use crate::blobs::blob_of;
-use cdc_base::{Items, Memory};
+use cdc_base::Memory;
 use cdc_event::{Body, kind};
-use cdc_model::RowList;
+use cdc_model::{RowList, RowRun};
 use std::alloc::Global;
 
 /// The type of a row event: rows inserted.
@@ -57,30 +57,19 @@ pub fn map_of(alloc: Global, db: &[u8], name: &[u8], rest: &[u8]) -> Result<Body
     })
 }
 
-/// No rows.
-pub fn no_rows(alloc: Global) -> RowList
-    ensures { AllByRecursion IsRow result }
-{
-    Items::new(alloc)
-}
-
 /// One row more.
-pub fn add_row(rows: &mut RowList, row: (u8, Body)) -> Result<(), Memory>
-    requires rows { AllByRecursion IsRow rows.old }
-    requires row { IsRow row }
-    ensures { AllByRecursion IsRow rows.new }
+pub fn add_row(rows: &mut RowRun, row: (u8, Body)) -> Result<(), Memory>
+    requires { IsRow row }
 {
-    rows.push(row)
+    rows.push(row.0, &row.1)
 }
 
-/// Row events that share one body.
-pub fn add_shared(rows: &mut RowList, body: &Body, count: u32) -> Result<(), Memory>
-    requires rows { AllByRecursion IsRow rows.old }
-    requires row { IsRow (ROWS, body.now) }
-    ensures { AllByRecursion IsRow rows.new }
+/// Row events with one body.
+pub fn add_shared(rows: &mut RowRun, body: &Body, count: u32) -> Result<(), Memory>
+    requires { IsRow (ROWS, body.now) }
 {
     for _number in 0..count {
-        add_row(rows, (ROWS, body.share()?))?;
+        rows.push(ROWS, body)?;
     }
     Ok(())
 }
@@ -90,9 +79,9 @@ pub fn one_row(alloc: Global, bytes: &[u8]) -> Result<RowList, Memory>
     requires { length bytes.now ≤ 2 ^ 26 }
     ensures { IfOk result (AllByRecursion IsRow) }
 {
-    let mut rows = no_rows(alloc);
+    let mut rows = RowRun::new(alloc);
     let map = map_of(alloc, b"d1", b"t1", b"\x01\x03\0\x01")?;
     add_row(&mut rows, (kind::TABLE_MAP, map))?;
     add_row(&mut rows, value_row(alloc, bytes)?)?;
-    Ok(rows)
+    rows.finish(alloc)
 }

@@ -20,21 +20,29 @@ struct Word<'a> {
 }
 
 /// The parts of a word, empty where it hasn't them.
-fn word_of(word: &str) -> Word<'_> {
-    let (word, tail): (&str, &[u8]) = match word.split_once("+") {
-        Some((word, _)) => (word, &CHECKSUM),
-        None => (word, &[]),
+fn word_of(word: &str) -> Result<Word<'_>, NotMade> {
+    let (word, behind, tail): (&str, &str, &[u8]) = match word.split_once("+") {
+        Some((word, behind)) => (word, behind, &CHECKSUM),
+        None => (word, "", &[]),
     };
-    let (sign, text) = word.split_once("(").unwrap_or((word, ""));
-    let (text, _) = text.split_once(")").unwrap_or((text, ""));
+    let (sign, text, after) = match word.split_once("(") {
+        Some((sign, text)) => {
+            let (text, after) = text.split_once(")").ok_or(NotMade::Word)?;
+            (sign, text, after)
+        }
+        None => (word, "", ""),
+    };
+    if !behind.is_empty() || !after.is_empty() {
+        return Err(NotMade::Word);
+    }
     let (id, number) = text.split_once(",").unwrap_or((text, ""));
-    Word {
+    Ok(Word {
         sign,
         text,
         id,
         number,
         tail,
-    }
+    })
 }
 
 /// A number in figures.
@@ -70,20 +78,35 @@ impl Log {
     /// | `h(2,18)` | a header of this type and length, alone |
     /// | an even number of digits of base 16 | these bytes |
     ///
-    /// A `+` behind a word of one event puts a checksum of four bytes behind the event.
+    /// A `+` behind `S`, `E`, `R`, `K`, `T` and `Q` puts a checksum of four bytes behind the event. Any other word is
+    /// refused.
     pub fn of(alloc: Global, words: &str) -> Result<Log, NotMade> {
         let mut log = Log::new(alloc);
         for word in words.split_whitespace() {
-            log.push_word(alloc, &word_of(word))?;
+            log.push_word(alloc, &word_of(word)?)?;
         }
         Ok(log)
     }
 
-    // What a node writes at once.
+    // An event that may have a checksum behind it, or what has none.
     fn push_word(&mut self, alloc: Global, word: &Word) -> Result<(), NotMade> {
         let id = word.id.as_bytes();
         match word.sign {
-            "H" => self.head(),
+            "S" => self.statement(b"XA START", id, word.tail),
+            "E" => self.statement(b"XA END", id, word.tail),
+            "R" => self.prepared(0, id, word.tail),
+            "K" => self.statement(b"XA COMMIT", id, word.tail),
+            "T" => self.timestamp(1, number_of(word.id)?, word.tail),
+            "Q" => self.query(plain_text(alloc, word.text)?.bytes(), word.tail),
+            _ if word.tail.is_empty() => self.push_group(alloc, word),
+            _ => Err(NotMade::Word),
+        }
+    }
+
+    // What a node writes at once.
+    fn push_group(&mut self, alloc: Global, word: &Word) -> Result<(), NotMade> {
+        let id = word.id.as_bytes();
+        match word.sign {
             "P" => self.prepare(id),
             "Pr" => self.prepare_row(id, 1),
             "O" => self.one_phase(id, number_of(word.number)?, 1),
@@ -96,19 +119,13 @@ impl Log {
         }
     }
 
-    // A single event, or a part of one.
+    // A part of a log that is no group.
     fn push_single(&mut self, alloc: Global, word: &Word) -> Result<(), NotMade> {
-        let id = word.id.as_bytes();
         match word.sign {
+            "H" => self.head(),
             "M" => self.magic(),
             "F0" => self.format(0),
             "F1" => self.format(1),
-            "S" => self.statement(b"XA START", id, word.tail),
-            "E" => self.statement(b"XA END", id, word.tail),
-            "R" => self.prepared(0, id, word.tail),
-            "K" => self.statement(b"XA COMMIT", id, word.tail),
-            "T" => self.timestamp(1, number_of(word.id)?, word.tail),
-            "Q" => self.query(plain_text(alloc, word.text)?.bytes(), word.tail),
             "D" => self.marked(plain_text(alloc, word.text)?.bytes()),
             "W" => self.rows(1),
             "X" => self.xid(),

@@ -12,7 +12,7 @@ use Rattle.cdc_model.specs.declared.entry.EntryKind.{EntryKind}
 use Rattle.cdc_model.specs.declared.entry.EntryKind.TheVariants.{Prepare, OnePhase, Commit, Rollback, Plain, Beat}
 use Rattle.cdc_model.specs.declared.node_log.NodeLog.{NodeLog}
 use Rattle.cdc_model.specs.Records.{LogEntry, CommittedBranch, OpenBranch, Start}
-use Rattle.cdc_model.specs.Start.{find_open, next, left}
+use Rattle.cdc_model.specs.Start.{find_open, next, left_by}
 use Rattle.cdc_model.specs.Soundness.{entry_fault, sound_entries, sound_history}
 use Rattle.cdc_model.specs.Branch.{committed, branch_of, begun_branches, is_new, is_settled}
 use Rattle.cdc_model.specs.Transaction.{node_branches, all_branches, entries_in, placed_key, put, add_settled, settled_keys, transactions_of, ordered_transactions, logs_low_water_mark}
@@ -40,7 +40,7 @@ one_branch node (Beat timestamp) start = omega arith
 few_begun : (start : Start) (node : ℕ) (history : List LogEntry) → length (begun_branches start node history) ≤ length history
 few_begun start node [] = omega arith
 few_begun start node (entry ∷ earlier) =
-    omega (arith, length-append (begun_branches start node earlier) (branch_of node entry.kind (left start earlier)), few_begun start node earlier, one_branch node entry.kind (left start earlier))
+    omega (arith, length-append (begun_branches start node earlier) (branch_of node entry.kind (left_by start earlier)), few_begun start node earlier, one_branch node entry.kind (left_by start earlier))
 
 few_by : (sound : Bool) (entry : LogEntry) (front later : List LogEntry) → length front ≤ length later → length (cond sound (entry ∷ front) []) ≤ length (entry ∷ later)
 few_by true entry front later less = omega (arith, less)

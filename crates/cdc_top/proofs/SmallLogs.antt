@@ -14,7 +14,7 @@ use Rattle.cdc_model.specs.declared.entry.EntryKind.TheVariants.{Prepare, OnePha
 use Rattle.cdc_model.specs.declared.node_log.NodeLog.{NodeLog}
 use Rattle.cdc_model.specs.Records.{LogEntry, CommittedBranch, OpenBranch, Start}
 use Rattle.cdc_base.specs.Xid.{same_xid, xid_order}
-use Rattle.cdc_model.specs.Start.{find_open, without, enter, opened_by, next, left}
+use Rattle.cdc_model.specs.Start.{find_open, without, enter, opened_by, next, left_by}
 use Rattle.cdc_model.specs.Soundness.{entry_fault, sound_entries, sound_history}
 use Rattle.cdc_model.specs.Branch.{Begun, committed, branch_of, begun_branches, is_new, is_settled}
 use Rattle.cdc_model.specs.Transaction.{node_branches, all_branches, placed_key, put, add_settled, settled_keys, has_key, transactions_of, ordered_transactions, logs_low_water_mark}
@@ -90,9 +90,9 @@ opened_small (Rollback xid) start small a = without_small xid start.opened a
 opened_small (Plain rows seconds) start small a = a
 opened_small (Beat timestamp) start small a = a
 
-left_small : (start : Start) (history : List LogEntry) → AllByRecursion IsSmallOpen start.opened → AllByRecursion IsSmallEntry history → AllByRecursion IsSmallOpen (left start history).opened
+left_small : (start : Start) (history : List LogEntry) → AllByRecursion IsSmallOpen start.opened → AllByRecursion IsSmallEntry history → AllByRecursion IsSmallOpen (left_by start history).opened
 left_small start [] o a = o
-left_small start (entry ∷ earlier) o a = opened_small entry.kind (left start earlier) a.0 (left_small start earlier o a.1)
+left_small start (entry ∷ earlier) o a = opened_small entry.kind (left_by start earlier) a.0 (left_small start earlier o a.1)
 
 -- ---- branches
 
@@ -116,7 +116,7 @@ branch_small node (Beat timestamp) start small o = tt
 begun_small : (start : Start) (node : ℕ) (history : List LogEntry) → AllByRecursion IsSmallOpen start.opened → AllByRecursion IsSmallEntry history → AllByRecursion IsSmallBegun (begun_branches start node history)
 begun_small start node [] o a = tt
 begun_small start node (entry ∷ earlier) o a =
-    all_append IsSmallBegun (begun_branches start node earlier) (branch_of node entry.kind (left start earlier)) (begun_small start node earlier o a.1) (branch_small node entry.kind (left start earlier) a.0 (left_small start earlier o a.1))
+    all_append IsSmallBegun (begun_branches start node earlier) (branch_of node entry.kind (left_by start earlier)) (begun_small start node earlier o a.1) (branch_small node entry.kind (left_by start earlier) a.0 (left_small start earlier o a.1))
 
 sound_by : (P : LogEntry → Type 0) (sound : Bool) (entry : LogEntry) (later : List LogEntry) → P entry → AllByRecursion P later → AllByRecursion P (cond sound (entry ∷ later) [])
 sound_by P true entry later p a = (p, a)

@@ -184,7 +184,7 @@ fn add_pair(
     let commit = group.commit.header.length;
     let prepared = at + start + ended;
     let committed = prepared + u64::from(prepare) + stamp;
-    let rows = RowList::new(alloc);
+    let rows = RowList::empty();
     let first = EntryKind::Prepare {
         xid: name.xid,
         rows,

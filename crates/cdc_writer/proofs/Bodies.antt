@@ -24,6 +24,6 @@ unfolding body_bytes
 xid_size number = length-low_first 8 number
 
 -- a printed event has its length
-pub printed_size : (place seconds : ℕ) (event : Row) → length (printed_event place seconds event) ≡ row_length event
+pub printed_size : (at seconds : ℕ) (event : Row) → length (printed_event at seconds event) ≡ row_length event
 unfolding header_bytes
-printed_size place seconds event = simp (length-append, length-low_first) (omega arith)
+printed_size at seconds event = simp (length-append, length-low_first) (omega arith)

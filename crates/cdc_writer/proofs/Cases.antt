@@ -126,16 +126,16 @@ marked_counts rules txn n e rows count =
     omega (arith, printed_parts rules txn e, none, count)
 
 -- the mark and the statements, and the rows behind them
-pub marked_laid : (rules : List Rename) (txn : Transaction) (before b1 b2 : List ℕ) (place p1 : ℕ) → has_statement txn.branches ≡ true
-    → b1 ≡ before ++ laid place txn.seconds (marked_events txn) → p1 ≡ place + events_length (marked_events txn)
+pub marked_laid : (rules : List Rename) (txn : Transaction) (before b1 b2 : List ℕ) (at p1 : ℕ) → has_statement txn.branches ≡ true
+    → b1 ≡ before ++ laid at txn.seconds (marked_events txn) → p1 ≡ at + events_length (marked_events txn)
     → b2 ≡ b1 ++ laid p1 txn.seconds (rows_behind rules txn.number (without_statement txn.branches))
-    → b2 ≡ before ++ printed_bytes rules txn place
-marked_laid rules txn before b1 b2 place p1 some w1 e1 w2 =
+    → b2 ≡ before ++ printed_bytes rules txn at
+marked_laid rules txn before b1 b2 at p1 some w1 e1 w2 =
     let rest = rows_behind rules txn.number (without_statement txn.branches) in
-    let first = laid place txn.seconds (marked_events txn) in
-    let parts : laid place txn.seconds (printed_events rules txn) ≡ first ++ laid (place + events_length (marked_events txn)) txn.seconds rest
-    = ap (laid place txn.seconds) (printed_marked rules txn some) ∙ laid_append place txn.seconds (marked_events txn) rest in
+    let first = laid at txn.seconds (marked_events txn) in
+    let parts : laid at txn.seconds (printed_events rules txn) ≡ first ++ laid (at + events_length (marked_events txn)) txn.seconds rest
+    = ap (laid at txn.seconds) (printed_marked rules txn some) ∙ laid_append at txn.seconds (marked_events txn) rest in
     w2 ∙ (ap (λ b. b ++ laid p1 txn.seconds rest) w1
     ∙ (ap (λ p. (before ++ first) ++ laid p txn.seconds rest) e1
-    ∙ (append_assoc before first (laid (place + events_length (marked_events txn)) txn.seconds rest)
+    ∙ (append_assoc before first (laid (at + events_length (marked_events txn)) txn.seconds rest)
     ∙ ap (λ bytes. before ++ bytes) (sym parts))))

@@ -35,7 +35,7 @@ laid_size at seconds (x ∷ xs) =
 
 -- of all events some are written, up to a place, and the rest is left
 pub record Left (before into : List ℕ) (start at seconds : ℕ) (all rest : List Row) : Type 0 where
-  pub place : at + events_length rest ≡ start + events_length all
+  pub ends : at + events_length rest ≡ start + events_length all
   pub bytes : into ++ laid at seconds rest ≡ before ++ laid start seconds all
   pub kept : take (length before) into ≡ before
 
@@ -63,30 +63,30 @@ module _ {before into : List ℕ} {start at seconds : ℕ} {all rest : List Row}
 
   -- one event more
   pub left_more : (event : Row) → Left before into start at seconds all (event ∷ rest) → (into' : List ℕ) (at' : ℕ) → into' ≡ into ++ printed_event at seconds event → at' ≡ at + row_length event → Left before into' start at' seconds all rest
-  left_more event left into' at' written place = record {
-    place = omega (arith, left.place, sum_by-cons row_length event rest);
-    bytes = rw (written, place, append_assoc into (printed_event at seconds event) (laid (at + row_length event) seconds rest)) left.bytes;
+  left_more event left into' at' written ends = record {
+    ends = omega (arith, left.ends, sum_by-cons row_length event rest);
+    bytes = rw (written, ends, append_assoc into (printed_event at seconds event) (laid (at + row_length event) seconds rest)) left.bytes;
     kept = rw written (kept_append before into (printed_event at seconds event) left.kept);
   }
 
   -- some events more
   pub left_many : (some : List Row) → Left before into start at seconds all (some ++ rest) → (into' : List ℕ) (at' : ℕ) → into' ≡ into ++ laid at seconds some → at' ≡ at + events_length some → Left before into' start at' seconds all rest
-  left_many some left into' at' written place = record {
-    place = omega (arith, left.place, sum_by-append row_length some rest);
-    bytes = rw (written, place, append_assoc into (laid at seconds some) (laid (at + events_length some) seconds rest), ← laid_append at seconds some rest) left.bytes;
+  left_many some left into' at' written ends = record {
+    ends = omega (arith, left.ends, sum_by-append row_length some rest);
+    bytes = rw (written, ends, append_assoc into (laid at seconds some) (laid (at + events_length some) seconds rest), ← laid_append at seconds some rest) left.bytes;
     kept = rw written (kept_append before into (laid at seconds some) left.kept);
   }
 
 -- the next events end where all do, or before
 pub some_within : (before into : List ℕ) (start at seconds : ℕ) (all some rest : List Row) → Left before into start at seconds all (some ++ rest) → at + events_length some ≤ start + events_length all
-some_within before into start at seconds all some rest left = omega (arith, left.place, sum_by-append row_length some rest)
+some_within before into start at seconds all some rest left = omega (arith, left.ends, sum_by-append row_length some rest)
 
 -- no event is left
-pub left_none : {before into : List ℕ} {start at seconds : ℕ} {all : List Row} → Left before into start at seconds all [] → record { bytes : into ≡ before ++ laid start seconds all; place : at ≡ start + events_length all }
-left_none {into} left = record { bytes = sym (append-nil into) ∙ left.bytes; place = omega (arith, left.place) }
+pub left_none : {before into : List ℕ} {start at seconds : ℕ} {all : List Row} → Left before into start at seconds all [] → record { bytes : into ≡ before ++ laid start seconds all; ends : at ≡ start + events_length all }
+left_none {into} left = record { bytes = sym (append-nil into) ∙ left.bytes; ends = omega (arith, left.ends) }
 
 pub left_all : (before : List ℕ) (start seconds : ℕ) (all rest : List Row) → all ≡ rest → Left before before start start seconds all rest
-left_all before start seconds all rest e = record { place = rw e refl; bytes = rw e refl; kept = take-length before }
+left_all before start seconds all rest e = record { ends = rw e refl; bytes = rw e refl; kept = take-length before }
 
 -- a fact under a result
 pub on_ok : {T E P Q : Type 0} (result : Result T E) → (P → Q) → OnOk result P → OnOk result Q
@@ -94,29 +94,29 @@ on_ok (Ok value) f h = f h
 on_ok (Err error) f h = tt
 
 -- an event, some events, and two events more
-pub four_laid : (before b1 b2 b3 b4 : List ℕ) (place p1 p2 p3 seconds : ℕ) (first : Row) (some : List Row) (third last : Row)
-    → b1 ≡ before ++ printed_event place seconds first → p1 ≡ place + row_length first
+pub four_laid : (before b1 b2 b3 b4 : List ℕ) (at p1 p2 p3 seconds : ℕ) (first : Row) (some : List Row) (third last : Row)
+    → b1 ≡ before ++ printed_event at seconds first → p1 ≡ at + row_length first
     → b2 ≡ b1 ++ laid p1 seconds some → p2 ≡ p1 + events_length some
     → b3 ≡ b2 ++ printed_event p2 seconds third → p3 ≡ p2 + row_length third
     → b4 ≡ b3 ++ printed_event p3 seconds last
-    → b4 ≡ before ++ laid place seconds (first ∷ (some ++ (third ∷ last ∷ [])))
-four_laid before b1 b2 b3 b4 place p1 p2 p3 seconds first some third last w1 e1 w2 e2 w3 e3 w4 =
+    → b4 ≡ before ++ laid at seconds (first ∷ (some ++ (third ∷ last ∷ [])))
+four_laid before b1 b2 b3 b4 at p1 p2 p3 seconds first some third last w1 e1 w2 e2 w3 e3 w4 =
     let all = first ∷ (some ++ (third ∷ last ∷ [])) in
-    let l0 = left_all before place seconds all all refl in
+    let l0 = left_all before at seconds all all refl in
     let l1 = left_more first l0 b1 p1 w1 e1 in
     let l2 = left_many some l1 b2 p2 w2 e2 in
     let l3 = left_more third l2 b3 p3 w3 e3 in
     (left_none (left_more last l3 b4 (p3 + row_length last) w4 refl)).bytes
 
 -- an event, some events, and one event more
-pub three_laid : (before b1 b2 b3 : List ℕ) (place p1 p2 seconds : ℕ) (first : Row) (some : List Row) (last : Row)
-    → b1 ≡ before ++ printed_event place seconds first → p1 ≡ place + row_length first
+pub three_laid : (before b1 b2 b3 : List ℕ) (at p1 p2 seconds : ℕ) (first : Row) (some : List Row) (last : Row)
+    → b1 ≡ before ++ printed_event at seconds first → p1 ≡ at + row_length first
     → b2 ≡ b1 ++ laid p1 seconds some → p2 ≡ p1 + events_length some
     → b3 ≡ b2 ++ printed_event p2 seconds last
-    → b3 ≡ before ++ laid place seconds (first ∷ (some ++ (last ∷ [])))
-three_laid before b1 b2 b3 place p1 p2 seconds first some last w1 e1 w2 e2 w3 =
+    → b3 ≡ before ++ laid at seconds (first ∷ (some ++ (last ∷ [])))
+three_laid before b1 b2 b3 at p1 p2 seconds first some last w1 e1 w2 e2 w3 =
     let all = first ∷ (some ++ (last ∷ [])) in
-    let l0 = left_all before place seconds all all refl in
+    let l0 = left_all before at seconds all all refl in
     let l1 = left_more first l0 b1 p1 w1 e1 in
     let l2 = left_many some l1 b2 p2 w2 e2 in
     (left_none (left_more last l2 b3 (p2 + row_length last) w3 refl)).bytes

@@ -10,3 +10,4 @@ mod Counted
 mod HeadBytes
 mod Short
 mod Runs
+mod RowViews

@@ -53,8 +53,8 @@ unfolding FitsBody
 size_fits size text h = h
 
 -- a mark may be printed where its text's length has a byte
-pub mark_printable : (place : ℕ) (key : Key) → length (mark_text key) < 256 → place + row_length (mark_event key) < 2 ^ 32 → IsPrintable place (mark_event key)
-mark_printable place key short room = record {
+pub mark_printable : (at : ℕ) (key : Key) → length (mark_text key) < 256 → at + row_length (mark_event key) < 2 ^ 32 → IsPrintable at (mark_event key)
+mark_printable at key short room = record {
   fits = size_fits (length (mark_text key)) (mark_text key) short;
   kind = refl;
   most = omega (arith, mark_size key);

@@ -20,13 +20,6 @@ row_printable at row body kept keeps room = record {
   room = room;
 }
 
--- the first row of what is left
-pub rows_first : (rules : List Rename) (rows : List Row) (i : ℕ) (row : Row) → i < length rows → row ≡ get_or rows i row → renamed_rows rules (drop i rows) ≡ renamed_rows rules (row ∷ drop (i + 1) rows)
-rows_first rules rows i row lt e = ap (renamed_rows rules) (item_first rows i row lt e)
-
-pub kept_first : (rows : List Row) (i : ℕ) (row : Row) → i < length rows → row ≡ get_or rows i row → AllByRecursion IsRow (drop i rows) → IsRow row × AllByRecursion IsRow (drop (i + 1) rows)
-kept_first rows i row lt e all = rw (item_first rows i row lt e) at all
-
 -- the first branch of what is left
 branch_step : (rules : List Rename) (branch : CommittedBranch) (rest : List CommittedBranch) (none : Bool) → row_events rules (cond none (branch ∷ without_statement rest) (without_statement rest)) ≡ cond none (renamed_rows rules branch.rows) [] ++ row_events rules (without_statement rest)
 branch_step rules branch rest true = refl

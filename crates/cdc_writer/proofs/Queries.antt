@@ -15,16 +15,16 @@ xid_fits : (number : ℕ) → number < 2 ^ 64 → FitsBody (Xid number)
 unfolding FitsBody
 xid_fits number h = h
 
-pub query_printable : (place : ℕ) (db text : List ℕ) → IsShort (db, text) → place + row_length (statement_event (db, text)) < 2 ^ 32 → IsPrintable place (statement_event (db, text))
-query_printable place db text short room = record {
+pub query_printable : (at : ℕ) (db text : List ℕ) → IsShort (db, text) → at + row_length (statement_event (db, text)) < 2 ^ 32 → IsPrintable at (statement_event (db, text))
+query_printable at db text short room = record {
   fits = query_fits db text short.database;
   kind = refl;
   most = omega (arith, query_size db text, short.most);
   room = room;
 }
 
-pub xid_printable : (place number : ℕ) → number < 2 ^ 64 → place + row_length (xid_event number) < 2 ^ 32 → IsPrintable place (xid_event number)
-xid_printable place number fits room = record {
+pub xid_printable : (at number : ℕ) → number < 2 ^ 64 → at + row_length (xid_event number) < 2 ^ 32 → IsPrintable at (xid_event number)
+xid_printable at number fits room = record {
   fits = xid_fits number fits;
   kind = refl;
   most = omega (arith, xid_size number);

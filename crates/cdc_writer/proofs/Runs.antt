@@ -72,8 +72,8 @@ rotate_fits : (name : List ℕ) → FitsBody (Rotate 4 name)
 unfolding FitsBody
 rotate_fits name = omega arith
 
-pub rotate_printable : (place number : ℕ) (name : List ℕ) → place ≤ 2 ^ 31 → number < 2 ^ 64 → name ≡ file_name number → IsPrintable place (4, Rotate 4 name)
-rotate_printable place number name low fits is =
+pub rotate_printable : (at number : ℕ) (name : List ℕ) → at ≤ 2 ^ 31 → number < 2 ^ 64 → name ≡ file_name number → IsPrintable at (4, Rotate 4 name)
+rotate_printable at number name low fits is =
     let short : length name ≤ 27 = omega (arith, ap length is, name_short number fits) in
     record {
       fits = rotate_fits name;

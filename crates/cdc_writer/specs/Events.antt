@@ -8,11 +8,11 @@ use Rattle.cdc_model.specs.Records.{Row}
 use Rattle.cdc_model.specs.Print.{row_length}
 
 -- an event of an input log's length or little more, that ends below 2^32 where it stands
-pub record IsPrintable (place : ℕ) (event : Row) : Type 0 where
+pub record IsPrintable (at : ℕ) (event : Row) : Type 0 where
   pub fits : FitsBody event.1
   pub kind : IsTrue (has_kind event.1 event.0)
   pub most : row_length event ≤ 2 ^ 27 + 256
-  pub room : place + row_length event < 2 ^ 32
+  pub room : at + row_length event < 2 ^ 32
 
 -- the length of events
 abbrev pub events_length : List Row → ℕ

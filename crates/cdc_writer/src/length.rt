@@ -7,10 +7,10 @@ ghost use Rattle.cdc_writer.specs.Statements.{branch_events, statement_events, a
 ghost use Rattle.cdc_writer.specs.Parts.{alone_events, marked_events, behind_events};
 
 use crate::mark::mark_length;
+use crate::rows::renamed_row_length;
 use crate::statement::{is_among, some_rows, some_statement, statement_of};
-use cdc_event::{Body, HEADER_LENGTH};
-use cdc_model::{Branch, Txn};
-use cdc_rename::{Names, renamed_length};
+use cdc_model::{Branch, RowList, Txn};
+use cdc_rename::Names;
 
 /// The bytes of BEGIN and XID.
 const FRAME_LENGTH: u64 = 65;
@@ -18,14 +18,18 @@ const FRAME_LENGTH: u64 = 65;
 /// The bytes of a statement's event beside its database and its text.
 const STATEMENT_LENGTH: u64 = 33;
 
-fn rows_length(rows: &[(u8, Body)], names: &Names) -> u64
+// Under rules table maps are looked into; without any no row is.
+fn rows_length(rows: &RowList, names: &Names) -> u64
     ensures { result ≡ min (events_length (renamed_rows names.now rows.now)) (2 ^ 64 - 1) }
 {
+    if names.is_empty() {
+        return rows.events_length();
+    }
     let mut total: u64 = 0;
-    for (_, body) in rows {
-        total = total
-            .saturating_add(HEADER_LENGTH as u64)
-            .saturating_add(renamed_length(body, names));
+    let mut left = rows.rows();
+    'rows: while let Some(row) = left.next() {
+        let _bytes = row.bytes();
+        total = total.saturating_add(renamed_row_length(&row, names));
     }
     total
 }
@@ -33,10 +37,9 @@ fn rows_length(rows: &[(u8, Body)], names: &Names) -> u64
 fn branch_length(branch: &Branch, names: &Names) -> u64
     ensures { result ≡ min (events_length (branch_events names.now branch.now)) (2 ^ 64 - 1) }
 {
-    let rows = branch.rows.as_slice();
-    match statement_of(rows) {
+    match statement_of(&branch.rows) {
         Some(_) => 0,
-        None => rows_length(rows, names),
+        None => rows_length(&branch.rows, names),
     }
 }
 
@@ -55,7 +58,7 @@ fn branches_length(branches: &[Branch], names: &Names) -> u64
 fn statement_length(before: &[Branch], branch: &Branch) -> u64
     ensures { result ≡ min (events_length (statement_events before.now branch.now)) (2 ^ 64 - 1) }
 {
-    let Some(statement) = statement_of(branch.rows.as_slice()) else {
+    let Some(statement) = statement_of(&branch.rows) else {
         return 0;
     };
     if is_among(before, &statement) {

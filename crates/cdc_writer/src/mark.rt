@@ -7,12 +7,9 @@ ghost use Rattle.cdc_model.specs.Print.{digits, mark_text, mark_event, row_lengt
 use crate::digits::push_digits;
 use crate::event::put_event;
 use cdc_base::{Blob, Buffer, Gtrid, Key, Memory};
-use cdc_event::Body;
+use cdc_event::{Body, kind};
 use hex::encode_to_slice;
 use std::alloc::Global;
-
-/// The type of a mark's event.
-pub(crate) const ROWS_QUERY: u8 = 29;
 
 /// The digits of a timestamp, of a node's number and of an entry's.
 const TIMESTAMP_DIGITS: usize = 19;
@@ -95,26 +92,26 @@ pub(crate) fn mark_length(key: &Key) -> u64
     20 + u64::from(text_length(key))
 }
 
-/// Appends a mark, and answers the place behind it.
+/// Appends a mark, and answers the offset behind it.
 pub(crate) fn put_mark(
     alloc: Global,
     key: &Key,
     seconds: u32,
-    place: u32,
+    at: u64,
     into: &mut Buffer,
-) -> Result<u32, Memory>
-    requires { place + row_length (mark_event key.now) < 2 ^ 32 }
-    ensures next { IfOk result (λ next. next ≡ place + row_length (mark_event key.now)) }
-    ensures ok { OnOk result (into.new ≡ into.old ++ printed_event place seconds (mark_event key.now)) }
+) -> Result<u64, Memory>
+    requires { at + row_length (mark_event key.now) < 2 ^ 32 }
+    ensures next { IfOk result (λ next. next ≡ at + row_length (mark_event key.now)) }
+    ensures ok { OnOk result (into.new ≡ into.old ++ printed_event at seconds (mark_event key.now)) }
     ensures err { OnErr result (into.new ≡ into.old) }
 {
     let text = text_of(alloc, key)?;
     let size = text_length(key);
     put_event(
-        ROWS_QUERY,
+        kind::ROWS_QUERY,
         Body::RowsQuery { size, text },
         seconds,
-        place,
+        at,
         into,
     )
 }

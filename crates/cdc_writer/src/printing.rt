@@ -68,7 +68,7 @@ pub fn print(
     let bytes = length_within(txn, names)?;
     into.reserve(bytes as usize)?;
     let before = into.len();
-    match put_transaction(alloc, txn, names, at as u32, into) {
+    match put_transaction(alloc, txn, names, at, into) {
         Ok(_) => Ok(()),
         Err(Memory) => {
             into.truncate(before);

@@ -7,11 +7,8 @@ ghost use Rattle.cdc_model.specs.Output.{file_name, rotate_event};
 use crate::digits::push_digits;
 use crate::event::put_event;
 use cdc_base::{Blob, Buffer, Memory};
-use cdc_event::{Body, HEADER_LENGTH};
+use cdc_event::{Body, HEADER_LENGTH, kind};
 use std::alloc::Global;
-
-/// The type of the event.
-const ROTATE: u8 = 4;
 
 /// Where the next file's events begin, behind its magic.
 const EVENTS: u64 = 4;
@@ -59,21 +56,21 @@ pub(crate) fn rotate_length(number: u64) -> usize
     HEADER_LENGTH + 8 + LOG.len() + digits
 }
 
-/// Appends the ROTATE event that stands at `place` and names the file of this number.
+/// Appends the ROTATE event that stands at `at` and names the file of this number.
 #[tactic(auto, unfolding(cdc_model::specs::Output::rotate_event))]
 pub(crate) fn put_rotate(
     alloc: Global,
     number: u64,
-    place: u32,
+    at: u64,
     into: &mut Buffer,
 ) -> Result<(), Memory>
-    requires { place ≤ 2 ^ 31 }
-    ensures { OnOk result (into.new ≡ into.old ++ rotate_event place number) }
+    requires { at ≤ 2 ^ 31 }
+    ensures { OnOk result (into.new ≡ into.old ++ rotate_event at number) }
 {
     let body = Body::Rotate {
         position: EVENTS,
         name: name_of(alloc, number)?,
     };
-    put_event(ROTATE, body, 0, place, into)?;
+    put_event(kind::ROTATE, body, 0, at, into)?;
     Ok(())
 }

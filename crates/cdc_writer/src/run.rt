@@ -26,7 +26,7 @@ fn put_head(spot: &Spot, into: &mut Buffer) -> Result<(), Memory>
 }
 
 // Appends the event that closes the file at `end`, where it closes.
-fn put_closing(alloc: Global, spot: &Spot, end: u32, into: &mut Buffer) -> Result<(), Memory>
+fn put_closing(alloc: Global, spot: &Spot, end: u64, into: &mut Buffer) -> Result<(), Memory>
     requires file { spot.now.file ≤ 2 ^ 63 }
     requires end { end ≤ 2 ^ 31 }
     ensures { OnOk result (into.new ≡ into.old ++ (if spot.now.closes then rotate_event end (spot.now.file + 1) else [])) }
@@ -53,8 +53,8 @@ fn put_run(
     ensures { OnOk result (into.new ≡ into.old ++ run_at names.now txn.now spot.now) }
 {
     put_head(spot, into)?;
-    put_transaction(alloc, txn, names, spot.at as u32, into)?;
-    put_closing(alloc, spot, (spot.at + length) as u32, into)
+    put_transaction(alloc, txn, names, spot.at, into)?;
+    put_closing(alloc, spot, spot.at + length, into)
 }
 
 // How many bytes head, print and ROTATE have.

@@ -1,7 +1,7 @@
 //! Where a print goes.
 
 ghost use Rattle.std.specs.Prelude.{◌≡◌, ◌≤◌, ◌^◌};
-ghost use Rattle.cdc_model.specs.Layout.{IsRotation, HasRoom, begins_file};
+ghost use Rattle.cdc_model.specs.Layout.{IsRotation, HasRoom};
 ghost use Rattle.cdc_writer.specs.Spot.{spot_of};
 
 use crate::head::HEAD_LENGTH;
@@ -17,13 +17,6 @@ pub struct Spot {
     pub closes: bool,
 }
 
-// Whether the next print begins a file.
-fn begins_file(layout: &Layout) -> bool
-    ensures { result ≡ begins_file layout.now }
-{
-    layout.closed || layout.file == 0
-}
-
 /// Where a print of `length` bytes goes, behind a layout. It begins a file where the last one is closed or there is
 /// none, and stands behind the file's head there. The file is closed behind it where it then has the rotation size.
 /// Takes no memory.
@@ -33,7 +26,7 @@ pub fn place(layout: &Layout, rotation: u64, length: u64) -> Spot
     requires length { length ≤ 2 ^ 28 }
     ensures { result ≡ spot_of layout.now rotation length }
 {
-    if begins_file(layout) {
+    if layout.begins_file() {
         Spot {
             file: layout.file + 1,
             at: HEAD_LENGTH as u64,

@@ -6,9 +6,8 @@ ghost use Rattle.std.specs.Option.{option_map};
 ghost use Rattle.cdc_model.specs.Print.{split_at_colons, statement_in, well_formed, row_statement, branch_statement, same_statement};
 ghost use Rattle.cdc_writer.specs.Statements.{is_statement};
 
-use crate::mark::ROWS_QUERY;
-use cdc_event::Body;
-use cdc_model::Branch;
+use cdc_event::kind;
+use cdc_model::{Branch, RowList, RowView};
 
 /// What a marked text begins with.
 const MARK: &[u8] = b"DDL::";
@@ -76,31 +75,36 @@ fn statement_in(text: &[u8]) -> Option<Statement<'_>>
     }
 }
 
-// The statement of a row.
-fn row_statement(row: &Body) -> Option<Statement<'_>>
-    ensures { option_map (λ s. (s.database.now, s.text.now)) result ≡ row_statement row.now }
+// The statement of a row of type 29, whose text stands behind one byte.
+#[tactic(auto, using(crate::proofs::RowViews::marked_some, crate::proofs::RowViews::marked_statement))]
+fn row_statement<'a>(row: &RowView<'a>) -> Option<Statement<'a>>
+    requires { row.now.0 ≡ 29 }
+    ensures { option_map (λ s. (s.database.now, s.text.now)) result ≡ row_statement row.now.1 }
 {
-    match row {
-        Body::RowsQuery { text, .. } => statement_in(text.bytes()),
-        _ => None,
-    }
+    let (_, text) = row.bytes().split_at(1);
+    statement_in(text)
 }
 
 /// The statement of a branch, whose one row is of type 29 and spells it.
-pub(crate) fn statement_of(rows: &[(u8, Body)]) -> Option<Statement<'_>>
+#[tactic(auto, using(crate::proofs::RowViews::one_marked, crate::proofs::RowViews::one_other, crate::proofs::RowViews::not_one))]
+pub(crate) fn statement_of(rows: &RowList) -> Option<Statement<'_>>
     ensures { option_map (λ s. (s.database.now, s.text.now)) result ≡ branch_statement rows.now }
 {
-    match rows {
-        [(kind, body)] if *kind == ROWS_QUERY => row_statement(body),
-        _ => None,
+    let mut left = rows.rows();
+    let Some(row) = left.next() else {
+        return None;
+    };
+    if rows.len() != 1 || row.kind() != kind::ROWS_QUERY {
+        return None;
     }
+    row_statement(&row)
 }
 
 // Whether a branch has this statement.
 fn is_of(branch: &Branch, statement: &Statement<'_>) -> bool
     ensures { result ≡ is_statement (statement.now.database.now, statement.now.text.now) (branch_statement branch.now.rows) }
 {
-    match statement_of(branch.rows.as_slice()) {
+    match statement_of(&branch.rows) {
         Some(other) => other.database == statement.database && other.text == statement.text,
         None => false,
     }
@@ -119,7 +123,7 @@ pub(crate) fn some_statement(branches: &[Branch]) -> bool
 {
     branches
         .iter()
-        .any(|branch| statement_of(branch.rows.as_slice()).is_some())
+        .any(|branch| statement_of(&branch.rows).is_some())
 }
 
 /// Whether a branch among these has none.
@@ -128,5 +132,5 @@ pub(crate) fn some_rows(branches: &[Branch]) -> bool
 {
     branches
         .iter()
-        .any(|branch| statement_of(branch.rows.as_slice()).is_none())
+        .any(|branch| statement_of(&branch.rows).is_none())
 }

@@ -6,38 +6,32 @@ ghost use Rattle.cdc_writer.specs.Events.{events_length};
 ghost use Rattle.cdc_writer.specs.Statements.{IsShort, statement_events, all_statement_events};
 ghost use Rattle.cdc_writer.specs.Parts.{alone_events, marked_events, behind_events};
 
-use crate::event::{blob_of, put_event};
+use crate::event::put_event;
 use crate::mark::put_mark;
 use crate::rows::put_branches;
 use crate::statement::{is_among, some_rows, some_statement, statement_of};
 use cdc_base::{Blob, Buffer, Memory};
-use cdc_event::Body;
+use cdc_event::{Body, kind};
 use cdc_model::{Branch, Txn};
 use cdc_rename::Names;
 use std::alloc::Global;
 
-/// The type of a statement's event.
-const QUERY: u8 = 2;
-
-/// The type of a transaction's last event.
-const XID: u8 = 16;
-
 /// The text of a transaction's first event.
 const BEGIN: &[u8] = b"BEGIN";
 
-// Appends a statement's event, and answers the place behind it.
+// Appends a statement's event, and answers the offset behind it.
 fn put_query(
     alloc: Global,
     database: &[u8],
     text: &[u8],
     seconds: u32,
-    place: u32,
+    at: u64,
     into: &mut Buffer,
-) -> Result<u32, Memory>
+) -> Result<u64, Memory>
     requires short { IsShort (database.now, text.now) }
-    requires room { place + row_length (statement_event (database.now, text.now)) < 2 ^ 32 }
-    ensures next { IfOk result (λ next. next ≡ place + row_length (statement_event (database.now, text.now))) }
-    ensures ok { OnOk result (into.new ≡ into.old ++ printed_event place seconds (statement_event (database.now, text.now))) }
+    requires room { at + row_length (statement_event (database.now, text.now)) < 2 ^ 32 }
+    ensures next { IfOk result (λ next. next ≡ at + row_length (statement_event (database.now, text.now))) }
+    ensures ok { OnOk result (into.new ≡ into.old ++ printed_event at seconds (statement_event (database.now, text.now))) }
     ensures err { OnErr result (into.new ≡ into.old) }
 {
     let body = Body::Query {
@@ -45,20 +39,20 @@ fn put_query(
         seconds: 0,
         error: 0,
         status: Blob::empty(),
-        db: blob_of(alloc, database)?,
-        text: blob_of(alloc, text)?,
+        db: Blob::copy_of(alloc, database)?,
+        text: Blob::copy_of(alloc, text)?,
     };
-    put_event(QUERY, body, seconds, place, into)
+    put_event(kind::QUERY, body, seconds, at, into)
 }
 
-// Appends a transaction's last event, and answers the place behind it.
-fn put_xid(number: u64, seconds: u32, place: u32, into: &mut Buffer) -> Result<u32, Memory>
-    requires { place + row_length (xid_event number) < 2 ^ 32 }
-    ensures next { IfOk result (λ next. next ≡ place + row_length (xid_event number)) }
-    ensures ok { OnOk result (into.new ≡ into.old ++ printed_event place seconds (xid_event number)) }
+// Appends a transaction's last event, and answers the offset behind it.
+fn put_xid(number: u64, seconds: u32, at: u64, into: &mut Buffer) -> Result<u64, Memory>
+    requires { at + row_length (xid_event number) < 2 ^ 32 }
+    ensures next { IfOk result (λ next. next ≡ at + row_length (xid_event number)) }
+    ensures ok { OnOk result (into.new ≡ into.old ++ printed_event at seconds (xid_event number)) }
     ensures err { OnErr result (into.new ≡ into.old) }
 {
-    put_event(XID, Body::Xid { number }, seconds, place, into)
+    put_event(kind::XID, Body::Xid { number }, seconds, at, into)
 }
 
 // Appends a branch's statement, unless a branch before it has it too.
@@ -67,26 +61,26 @@ fn put_statement(
     before: &[Branch],
     branch: &Branch,
     seconds: u32,
-    place: u32,
+    at: u64,
     into: &mut Buffer,
-) -> Result<u32, Memory>
-    requires { place + events_length (statement_events before.now branch.now) < 2 ^ 32 }
-    ensures next { IfOk result (λ next. next ≡ place + events_length (statement_events before.now branch.now)) }
-    ensures ok { OnOk result (into.new ≡ into.old ++ laid place seconds (statement_events before.now branch.now)) }
+) -> Result<u64, Memory>
+    requires { at + events_length (statement_events before.now branch.now) < 2 ^ 32 }
+    ensures next { IfOk result (λ next. next ≡ at + events_length (statement_events before.now branch.now)) }
+    ensures ok { OnOk result (into.new ≡ into.old ++ laid at seconds (statement_events before.now branch.now)) }
     ensures kept { take (length into.old) into.new ≡ into.old }
 {
-    let Some(statement) = statement_of(branch.rows.as_slice()) else {
-        return Ok(place);
+    let Some(statement) = statement_of(&branch.rows) else {
+        return Ok(at);
     };
     if is_among(before, &statement) {
-        return Ok(place);
+        return Ok(at);
     }
     put_query(
         alloc,
         statement.database,
         statement.text,
         seconds,
-        place,
+        at,
         into,
     )
 }
@@ -96,15 +90,15 @@ fn put_statements(
     alloc: Global,
     branches: &[Branch],
     seconds: u32,
-    place: u32,
+    at: u64,
     into: &mut Buffer,
-) -> Result<u32, Memory>
-    requires { place + events_length (all_statement_events branches.now) < 2 ^ 32 }
-    ensures next { IfOk result (λ next. next ≡ place + events_length (all_statement_events branches.now)) }
-    ensures ok { OnOk result (into.new ≡ into.old ++ laid place seconds (all_statement_events branches.now)) }
+) -> Result<u64, Memory>
+    requires { at + events_length (all_statement_events branches.now) < 2 ^ 32 }
+    ensures next { IfOk result (λ next. next ≡ at + events_length (all_statement_events branches.now)) }
+    ensures ok { OnOk result (into.new ≡ into.old ++ laid at seconds (all_statement_events branches.now)) }
     ensures kept { take (length into.old) into.new ≡ into.old }
 {
-    let mut next = place;
+    let mut next = at;
     for (index, branch) in branches.iter().enumerate() {
         let (before, _) = branches.split_at(index);
         next = put_statement(alloc, before, branch, seconds, next, into)?;
@@ -117,29 +111,29 @@ fn put_alone(
     alloc: Global,
     txn: &Txn,
     names: &Names,
-    place: u32,
+    at: u64,
     into: &mut Buffer,
-) -> Result<u32, Memory>
-    requires { place + events_length (alone_events names.now txn.now) < 2 ^ 32 }
-    ensures next { IfOk result (λ next. next ≡ place + events_length (alone_events names.now txn.now)) }
-    ensures ok { OnOk result (into.new ≡ into.old ++ laid place txn.now.seconds (alone_events names.now txn.now)) }
+) -> Result<u64, Memory>
+    requires { at + events_length (alone_events names.now txn.now) < 2 ^ 32 }
+    ensures next { IfOk result (λ next. next ≡ at + events_length (alone_events names.now txn.now)) }
+    ensures ok { OnOk result (into.new ≡ into.old ++ laid at txn.now.seconds (alone_events names.now txn.now)) }
     ensures kept { take (length into.old) into.new ≡ into.old }
 {
     let branches = txn.branches.as_slice();
-    let rows = put_query(alloc, b"", BEGIN, txn.seconds, place, into)?;
+    let rows = put_query(alloc, b"", BEGIN, txn.seconds, at, into)?;
     let mark = put_branches(branches, names, txn.seconds, rows, into)?;
     let end = put_mark(alloc, &txn.key, txn.seconds, mark, into)?;
     put_xid(txn.number, txn.seconds, end, into)
 }
 
 // The mark and the statements.
-fn put_marked(alloc: Global, txn: &Txn, place: u32, into: &mut Buffer) -> Result<u32, Memory>
-    requires { place + events_length (marked_events txn.now) < 2 ^ 32 }
-    ensures next { IfOk result (λ next. next ≡ place + events_length (marked_events txn.now)) }
-    ensures ok { OnOk result (into.new ≡ into.old ++ laid place txn.now.seconds (marked_events txn.now)) }
+fn put_marked(alloc: Global, txn: &Txn, at: u64, into: &mut Buffer) -> Result<u64, Memory>
+    requires { at + events_length (marked_events txn.now) < 2 ^ 32 }
+    ensures next { IfOk result (λ next. next ≡ at + events_length (marked_events txn.now)) }
+    ensures ok { OnOk result (into.new ≡ into.old ++ laid at txn.now.seconds (marked_events txn.now)) }
     ensures kept { take (length into.old) into.new ≡ into.old }
 {
-    let statements = put_mark(alloc, &txn.key, txn.seconds, place, into)?;
+    let statements = put_mark(alloc, &txn.key, txn.seconds, at, into)?;
     put_statements(
         alloc,
         txn.branches.as_slice(),
@@ -154,16 +148,16 @@ fn put_behind(
     alloc: Global,
     txn: &Txn,
     names: &Names,
-    place: u32,
+    at: u64,
     into: &mut Buffer,
-) -> Result<u32, Memory>
-    requires { place + events_length (behind_events names.now txn.now) < 2 ^ 32 }
-    ensures next { IfOk result (λ next. next ≡ place + events_length (behind_events names.now txn.now)) }
-    ensures ok { OnOk result (into.new ≡ into.old ++ laid place txn.now.seconds (behind_events names.now txn.now)) }
+) -> Result<u64, Memory>
+    requires { at + events_length (behind_events names.now txn.now) < 2 ^ 32 }
+    ensures next { IfOk result (λ next. next ≡ at + events_length (behind_events names.now txn.now)) }
+    ensures ok { OnOk result (into.new ≡ into.old ++ laid at txn.now.seconds (behind_events names.now txn.now)) }
     ensures kept { take (length into.old) into.new ≡ into.old }
 {
     let branches = txn.branches.as_slice();
-    let rows = put_query(alloc, b"", BEGIN, txn.seconds, place, into)?;
+    let rows = put_query(alloc, b"", BEGIN, txn.seconds, at, into)?;
     let end = put_branches(branches, names, txn.seconds, rows, into)?;
     put_xid(txn.number, txn.seconds, end, into)
 }
@@ -173,17 +167,17 @@ fn put_rows_behind(
     alloc: Global,
     txn: &Txn,
     names: &Names,
-    place: u32,
+    at: u64,
     into: &mut Buffer,
-) -> Result<u32, Memory>
-    requires { place + events_length (rows_behind names.now txn.now.number (without_statement txn.now.branches)) < 2 ^ 32 }
-    ensures ok { OnOk result (into.new ≡ into.old ++ laid place txn.now.seconds (rows_behind names.now txn.now.number (without_statement txn.now.branches))) }
+) -> Result<u64, Memory>
+    requires { at + events_length (rows_behind names.now txn.now.number (without_statement txn.now.branches)) < 2 ^ 32 }
+    ensures ok { OnOk result (into.new ≡ into.old ++ laid at txn.now.seconds (rows_behind names.now txn.now.number (without_statement txn.now.branches))) }
     ensures kept { take (length into.old) into.new ≡ into.old }
 {
     if some_rows(txn.branches.as_slice()) {
-        put_behind(alloc, txn, names, place, into)
+        put_behind(alloc, txn, names, at, into)
     } else {
-        Ok(place)
+        Ok(at)
     }
 }
 
@@ -192,17 +186,17 @@ pub(crate) fn put_transaction(
     alloc: Global,
     txn: &Txn,
     names: &Names,
-    place: u32,
+    at: u64,
     into: &mut Buffer,
-) -> Result<u32, Memory>
-    requires { place + printed_length names.now txn.now < 2 ^ 32 }
-    ensures ok { OnOk result (into.new ≡ into.old ++ printed_bytes names.now txn.now place) }
+) -> Result<u64, Memory>
+    requires { at + printed_length names.now txn.now < 2 ^ 32 }
+    ensures ok { OnOk result (into.new ≡ into.old ++ printed_bytes names.now txn.now at) }
     ensures kept { take (length into.old) into.new ≡ into.old }
 {
     if some_statement(txn.branches.as_slice()) {
-        let rows = put_marked(alloc, txn, place, into)?;
+        let rows = put_marked(alloc, txn, at, into)?;
         put_rows_behind(alloc, txn, names, rows, into)
     } else {
-        put_alone(alloc, txn, names, place, into)
+        put_alone(alloc, txn, names, at, into)
     }
 }

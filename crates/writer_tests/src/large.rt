@@ -7,11 +7,11 @@ ghost use Rattle.cdc_model.specs.Kept.{IsRow};
 use crate::printed::printed;
 use cdc_base::Memory;
 use cdc_event::Body;
-use cdc_model::{Layout, RowList, Txn};
+use cdc_model::{RowList, RowRun, Txn};
 use cdc_rename::Names;
 use cdc_samples::blobs::part;
 use cdc_samples::layouts::NO_FILE;
-use cdc_samples::rows::{add_row, add_shared, no_rows, value_body, value_row};
+use cdc_samples::rows::{add_row, add_shared, value_body, value_row};
 use cdc_samples::transactions::{add_branch, no_branches, shared, transaction};
 use cdc_writer::{PrintError, print_length, unit};
 use std::alloc::Global;
@@ -30,11 +30,8 @@ fn equal_body(alloc: Global, value: u8, count: usize) -> Result<Body, Memory>
     value_body(alloc, bytes.as_slice())
 }
 
-// Adds 255 rows of 2^20 bytes that share one body.
-fn add_large(alloc: Global, rows: &mut RowList) -> Result<(), Memory>
-    requires { AllByRecursion IsRow rows.old }
-    ensures { AllByRecursion IsRow rows.new }
-{
+// Adds 255 rows of 2^20 bytes.
+fn add_large(alloc: Global, rows: &mut RowRun) -> Result<(), Memory> {
     let large = equal_body(alloc, 7, LARGE)?;
     add_shared(rows, &large, 255)
 }
@@ -44,11 +41,11 @@ fn large_rows(alloc: Global, last: usize) -> Result<RowList, Memory>
     requires { last ≤ 2 ^ 20 }
     ensures { IfOk result (AllByRecursion IsRow) }
 {
-    let mut rows = no_rows(alloc);
+    let mut rows = RowRun::new(alloc);
     add_row(&mut rows, value_row(alloc, b"")?)?;
     add_large(alloc, &mut rows)?;
     add_row(&mut rows, (30, equal_body(alloc, 9, last)?))?;
-    Ok(rows)
+    rows.finish(alloc)
 }
 
 // A transaction of these rows.

@@ -3,10 +3,10 @@
 ghost use Rattle.cdc_model.specs.Kept.{IsKeptKey};
 
 use cdc_base::{Key, Memory};
-use cdc_model::{BranchList, Txn};
+use cdc_model::{BranchList, RowRun, Txn};
 use cdc_rename::Names;
 use cdc_samples::blobs::part;
-use cdc_samples::rows::{add_row, marked_row, no_rows, one_row};
+use cdc_samples::rows::{add_row, marked_row, one_row};
 use cdc_samples::rules::rule;
 use cdc_samples::transactions::{add_branch, no_branches, transaction};
 use std::alloc::Global;
@@ -60,9 +60,9 @@ fn add_text(alloc: Global, branches: &mut BranchList, key: &Key, text: &[u8]) ->
     if text.is_empty() || text.len() > 1000 {
         return Ok(());
     }
-    let mut rows = no_rows(alloc);
+    let mut rows = RowRun::new(alloc);
     add_row(&mut rows, marked_row(alloc, text)?)?;
-    add_branch(branches, key, rows)
+    add_branch(branches, key, rows.finish(alloc)?)
 }
 
 /// A shared transaction of branches with these texts, and of one with rows where it is asked for.

@@ -5,6 +5,5 @@ use Rattle.cdc_writer.proofs.length.statement_length.Goals as goal
 
 pub returns : goal.returns
 returns c =
-    let spelled = rw c.as_slice.ensures at c.in-Some.ensures in
-    let size = new_size c.args.before.now (branch_seen c.branch.inside) (c.in-Some.statement.database.now, c.in-Some.statement.text.now) spelled (sym c.if-is_among.ensures) in
+    let size = new_size c.args.before.now (branch_seen c.branch.inside) (c.in-Some.statement.database.now, c.in-Some.statement.text.now) c.in-Some.ensures (sym c.if-is_among.ensures) in
     rw (← c.branch.view_is) (omega (arith, size, c.saturating_add.ensures, c.saturating_add-2.ensures))

@@ -3,5 +3,4 @@ use Rattle.cdc_writer.proofs.transaction.put_statement.Goals as goal
 
 pub put_query-requires-clause-short : goal.put_query-requires-clause-short
 put_query-requires-clause-short c =
-    let spelled = rw c.as_slice.ensures at c.in-Some.ensures in
-    short_of c.branch.inside.rows c.branch.invariant.rows (c.in-Some.statement.database.now, c.in-Some.statement.text.now) spelled
+    short_of c.branch.inside.rows c.branch.invariant.rows (c.in-Some.statement.database.now, c.in-Some.statement.text.now) c.in-Some.ensures

@@ -16,18 +16,18 @@ pub put_alone-requires : goal.put_alone-requires
 put_alone-requires c =
     let slice : c.as_slice.result.now ≡ c.args.txn.now.branches = c.as_slice.ensures ∙ ap (λ (t : Transaction). t.branches) c.txn.view_is in
     let none = rw slice at c.if-some_statement.ensures in
-    let P : List Row → Type 0 = λ events. c.args.place + events_length events < 2 ^ 32 in
+    let P : List Row → Type 0 = λ events. c.args.at + events_length events < 2 ^ 32 in
     subst P (printed_alone c.args.names.now c.args.txn.now (sym none)) c.requires
 
 pub returns-in_ok-rows-clause-ok : goal.returns-in_ok-rows-clause-ok
 returns-in_ok-rows-clause-ok c =
     let slice : c.as_slice.result.now ≡ c.args.txn.now.branches = c.as_slice.ensures ∙ ap (λ (t : Transaction). t.branches) c.txn.view_is in
     let some = rw slice at c.if-some_statement.ensures in
-    on_ok _ (marked_laid c.args.names.now c.args.txn.now c.args.into.now _ _ c.args.place _ (sym some) c.in_ok-rows.ensures.ok c.in_ok-rows.ensures.next) c.put_rows_behind.ensures.ok
+    on_ok _ (marked_laid c.args.names.now c.args.txn.now c.args.into.now _ _ c.args.at _ (sym some) c.in_ok-rows.ensures.ok c.in_ok-rows.ensures.next) c.put_rows_behind.ensures.ok
 
 pub returns-else-some_statement-clause-ok : goal.returns-else-some_statement-clause-ok
 returns-else-some_statement-clause-ok c =
     let slice : c.as_slice.result.now ≡ c.args.txn.now.branches = c.as_slice.ensures ∙ ap (λ (t : Transaction). t.branches) c.txn.view_is in
     let none = rw slice at c.if-some_statement.ensures in
-    let P : List Row → Type 0 = λ events. OnOk c.put_alone.result (c.put_alone.new.into ≡ c.args.into.now ++ laid c.args.place c.args.txn.now.seconds events) in
+    let P : List Row → Type 0 = λ events. OnOk c.put_alone.result (c.put_alone.new.into ≡ c.args.into.now ++ laid c.args.at c.args.txn.now.seconds events) in
     subst P (sym (printed_alone c.args.names.now c.args.txn.now (sym none))) c.put_alone.ensures.ok
