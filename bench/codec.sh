@@ -1,16 +1,22 @@
 #!/bin/sh
 # codec.sh PROGRAM [YARDSTICK [RUNS]]: times the reading of row events, in memory and one after another.
 #
-# PROGRAM is the built `cdc_bench`, YARDSTICK a folder with the built `yard`, RUNS how often each is run (5 if left
-# out). The least time counts, in seconds of the processor, since other programs may run beside it. For row events of
-# 100 and of 1,000 bytes a line gives the events and bytes that were read in a second and, with a yardstick, the same
-# of `yard parse` over the same events in files, and how many times longer the program takes. From each time that of
-# a run over one log (64 MiB) is taken off, so that making the log and starting the program count for nothing.
+# PROGRAM is the built `cdc_bench`, YARDSTICK a folder with the built `yard` (no word, or an empty one: no comparison),
+# RUNS how often each is run (5 if left out). It needs python3, and says which of them is missing (status 2). The least
+# time counts, in seconds of the processor, since other programs may run beside it. For row events of 100 and of 1,000
+# bytes a line gives the events and bytes that were read in a second and, with a yardstick, the same of `yard parse`
+# over the same events in files, and how many times longer the program takes. From each time that of a run over one log
+# (64 MiB) is taken off, so that making the log and starting the program count for nothing.
 set -eu
+. "$(dirname "$0")/needs.sh"
 
 if [ $# -lt 1 ]; then
     echo "usage: codec.sh PROGRAM [YARDSTICK [RUNS]]" >&2
     exit 2
+fi
+need "$1" "the built program cdc_bench"
+if [ -n "${2:-}" ]; then
+    need "$2/yard" "the built yardstick"
 fi
 room=$(mktemp -d)
 trap 'rm -rf "$room"' EXIT

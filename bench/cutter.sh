@@ -1,18 +1,24 @@
 #!/bin/sh
 # cutter.sh PROGRAM [YARDSTICK [RUNS]]: times the cutting of events from pieces of 65,536 bytes.
 #
-# PROGRAM is the built `cdc_bench`, YARDSTICK a folder with the built `yard`, RUNS how often each is run (5 if left
-# out). The least time counts, in seconds of the processor, since other programs may run beside it. For row events of 30,
-# 300 and 3,000 bytes, about 1 GB of each, and for events of 100 MB a line gives the bytes that were cut in a second, the
-# most memory that the program had, that of the same program where it only reads its log, and, with a yardstick, the time
-# of `yard parse` over the same events in mapped files and by reads of 64 KiB (`-r 1`), and how many times longer the
-# program takes. Over mapped files the yardstick copies nothing, and of a long event it touches the header alone. From
-# each time that of a run over one log is taken off, so that making the log and starting the program count for nothing.
+# PROGRAM is the built `cdc_bench`, YARDSTICK a folder with the built `yard` (no word, or an empty one: no comparison),
+# RUNS how often each is run (5 if left out). It needs python3, and says which of them is missing (status 2). The least
+# time counts, in seconds of the processor, since other programs may run beside it. For row events of 30, 300 and 3,000
+# bytes, about 1 GB of each, and for events of 100 MB a line gives the bytes that were cut in a second, the most memory
+# that the program had, that of the same program where it only reads its log, and, with a yardstick, the time of `yard
+# parse` over the same events in mapped files and by reads of 64 KiB (`-r 1`), and how many times longer the program
+# takes. Over mapped files the yardstick copies nothing, and of a long event it touches the header alone. From each
+# time that of a run over one log is taken off, so that making the log and starting the program count for nothing.
 set -eu
+. "$(dirname "$0")/needs.sh"
 
 if [ $# -lt 1 ]; then
     echo "usage: cutter.sh PROGRAM [YARDSTICK [RUNS]]" >&2
     exit 2
+fi
+need "$1" "the built program cdc_bench"
+if [ -n "${2:-}" ]; then
+    need "$2/yard" "the built yardstick"
 fi
 room=$(mktemp -d)
 trap 'rm -rf "$room"' EXIT

@@ -1,18 +1,23 @@
 #!/bin/sh
 # pairs.sh PROGRAM YARDSTICK [RUNS]: times `print` on logs of pairs.
 #
-# PROGRAM is the built program, YARDSTICK a folder with the generator pairs.py and the built `yard`, RUNS how often
-# each is run (5 if left out; the least time counts). For logs of 64, 512 and 4,096 pairs a line gives the bytes of
-# the log and of the file, the milliseconds and peak KiB of `print`, the milliseconds of reading alone (the same log
-# and one zero byte, which isn't in form), the milliseconds of `yard print -r 1` on the log, and the ratio of the two.
-# The peak is that of one run more under the program `time`, where there is one. The files of both have to be equal,
-# and the peak is to be at most 6 times the log and 32 MiB; else the status is 1.
+# PROGRAM is the built program, YARDSTICK a folder with the generator `pairs.py` and the built `yard`, RUNS how often
+# each is run (5 if left out; the least time counts). It needs python3, and says which of them is missing (status 2).
+# For logs of 64, 512 and 4,096 pairs a line gives the bytes of the log and of the file, the milliseconds and peak KiB
+# of `print`, the milliseconds of reading alone (the same log and one zero byte, which isn't in form), the milliseconds
+# of `yard print -r 1` on the log, and the ratio of the two. The peak is that of one run more under the program `time`,
+# where there is one. The files of both have to be equal, and the peak is to be at most 6 times the log and 32 MiB;
+# else the status is 1.
 set -eu
+. "$(dirname "$0")/needs.sh"
 
 if [ $# -lt 2 ]; then
     echo "usage: pairs.sh PROGRAM YARDSTICK [RUNS]" >&2
     exit 2
 fi
+need "$1" "the built program cdc"
+need "$2/pairs.py" "the generator of logs of pairs"
+need "$2/yard" "the built yardstick"
 room=$(mktemp -d)
 trap 'rm -rf "$room"' EXIT
 status=0

@@ -1,18 +1,21 @@
 #!/bin/sh
 # unit.sh PROGRAM [RUNS]: times the making of units, one behind another.
 #
-# PROGRAM is the built `cdc_bench`, RUNS how often each is run (5 if left out). The least time counts, in seconds of
-# the processor, since other programs may run beside it. For transactions of two branches, with a table map and ten
-# row events of 100 and of 1,000 bytes each, a line gives the units, the events and the bytes that were made in a
-# second, and how many times longer that takes than to copy as many bytes in memory, 64 MiB at a time. (The rows share
-# one body, which stays near the processor; the copy reads and writes memory anew.) From each time that of a run over
-# one unit is taken off, so that making the transaction and starting the program count for nothing.
+# PROGRAM is the built `cdc_bench`, RUNS how often each is run (5 if left out). It needs python3, and says which of the
+# two is missing (status 2). The least time counts, in seconds of the processor, since other programs may run beside
+# it. For transactions of two branches, with a table map and ten row events of 100 and of 1,000 bytes each, a line
+# gives the units, the events and the bytes that were made in a second, and how many times longer that takes than to
+# copy as many bytes in memory, 64 MiB at a time. (The rows share one body, which stays near the processor; the copy
+# reads and writes memory anew.) From each time that of a run over one unit is taken off, so that making the
+# transaction and starting the program count for nothing.
 set -eu
+. "$(dirname "$0")/needs.sh"
 
 if [ $# -lt 1 ]; then
     echo "usage: unit.sh PROGRAM [RUNS]" >&2
     exit 2
 fi
+need "$1" "the built program cdc_bench"
 python3 - "$1" "${2:-5}" <<'PYTHON'
 import os
 import subprocess

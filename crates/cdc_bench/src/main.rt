@@ -15,7 +15,7 @@
 //! Any other words are answered by the usage and status 2.
 #![tactic(auto)]
 
-ghost use Rattle.std.specs.Prelude.{◌≤◌, ◌^◌};
+ghost use Rattle.std.specs.Prelude.{◌≤◌};
 
 mod cutting;
 mod reading;
@@ -31,6 +31,7 @@ use crate::tally::Tally;
 use crate::units::{ROW_MAX, make_units, row_transaction};
 use crate::words::{Task, Work, words_of, work_of};
 use cdc_base::Memory;
+use cdc_samples::NotMade;
 use std::alloc::Global;
 use std::io::{self, Eprint, Print};
 use std::process::ExitCode;
@@ -46,9 +47,8 @@ const USAGE: u8 = 2;
 const NO_MEMORY: u8 = 8;
 
 /// Reads events; none where one couldn't be read.
-fn events_read(alloc: Global, work: &Work) -> Result<Option<Tally>, Memory>
-    requires least { 19 ≤ work.now.size }
-    requires most { work.now.size ≤ 2 ^ 27 }
+fn events_read(alloc: Global, work: &Work) -> Result<Option<Tally>, NotMade>
+    requires { 19 ≤ work.now.size }
 {
     let log = row_log(alloc, work.size)?;
     match read_events(&log, work.count)? {
@@ -78,14 +78,13 @@ fn units_made(alloc: Global, work: &Work) -> Result<Option<Tally>, Memory> {
 }
 
 /// Does the work, and answers what was done; none where an event couldn't be read, or a unit wasn't made.
-fn do_work(alloc: Global, work: &Work) -> Result<Option<Tally>, Memory>
-    requires least { 19 ≤ work.now.size }
-    requires most { work.now.size ≤ 2 ^ 27 }
+fn do_work(alloc: Global, work: &Work) -> Result<Option<Tally>, NotMade>
+    requires { 19 ≤ work.now.size }
 {
     match work.task {
         Task::ReadRows => events_read(alloc, work),
-        Task::CutRows => cut_events(alloc, &row_log(alloc, work.size)?, work.count),
-        Task::MakeUnits => units_made(alloc, work),
+        Task::CutRows => Ok(cut_events(alloc, &row_log(alloc, work.size)?, work.count)?),
+        Task::MakeUnits => Ok(units_made(alloc, work)?),
     }
 }
 
@@ -100,7 +99,7 @@ fn print_done<R: Print>(rt: &R, task: Task, done: Tally) -> io::Result<()> {
 }
 
 /// Does what the words say, and answers the status.
-fn answer<R: AllocGlobal + Eprint + Env + Print>(rt: &R) -> Result<u8, Memory> {
+fn answer<R: AllocGlobal + Eprint + Env + Print>(rt: &R) -> Result<u8, NotMade> {
     let words = words_of(rt)?;
     let Some(work) = work_of(words.as_slice()) else {
         let _printed = eprintln!(rt; "usage: cdc_bench read|cut|unit row SIZE COUNT");
@@ -118,6 +117,7 @@ fn answer<R: AllocGlobal + Eprint + Env + Print>(rt: &R) -> Result<u8, Memory> {
 fn main(rt: HostRuntime) -> ExitCode {
     match answer(&rt) {
         Ok(status) => ExitCode::from(status),
-        Err(Memory) => ExitCode::from(NO_MEMORY),
+        Err(NotMade::Memory) => ExitCode::from(NO_MEMORY),
+        Err(_) => ExitCode::from(FAILED),
     }
 }

@@ -6,13 +6,12 @@ ghost use Rattle.cdc_model.specs.Kept.{IsRow, IsKeptKey};
 
 use cdc_base::{Key, Memory};
 use cdc_event::HEADER_LENGTH;
-use cdc_model::{Layout, RowList, RowRun, Txn};
+use cdc_model::{RowList, RowRun, Txn};
 use cdc_rename::Names;
+use cdc_samples::layouts::{NO_FILE, has_room};
+use cdc_samples::rows::{add_row, add_shared, map_of, value_body};
+use cdc_samples::transactions::{add_branch, no_branches, shared, transaction};
 use cdc_writer::{PrintError, unit};
-use print_tests::build::{
-    add_branch, add_row, add_shared, has_room, map_of, no_branches, shared, transaction,
-    value_body,
-};
 use std::alloc::Global;
 
 /// The most bytes of a row event.
@@ -63,11 +62,7 @@ pub fn row_transaction(alloc: Global, size: u32) -> Result<Option<Txn>, Memory>
 /// there is no room for one, or where it is too large.
 pub fn make_units(alloc: Global, txn: &Txn, count: u64) -> Result<Option<u64>, Memory> {
     let names = Names::new(alloc);
-    let mut layout = Layout {
-        file: 0,
-        length: 0,
-        closed: false,
-    };
+    let mut layout = NO_FILE;
     let mut bytes = 0_u64;
     for _ in 0..count {
         if !has_room(&layout, ROTATION) {

@@ -155,9 +155,7 @@ pub takes_file : {A B : Type 0} (result : Result A B) (piece : List ℕ) (old ne
 takes_file (Ok value) piece old new t e = same_file old.state piece old new t
 takes_file (Err error) piece old new t e = ap (λ (v : Cutting). v.file) e
 
-pub passed_count : (front tail piece rest : List ℕ) (at : ℕ) → at + length (front ++ tail) + length piece < 2 ^ 63 → tail ++ piece ≡ magic ++ rest → 4 + length (front ++ rest) < 2 ^ 63
-passed_count front tail piece rest at h e =
-    let one : length (front ++ tail) ≡ length front + length tail = length-append front tail in
-    let two : length (front ++ rest) ≡ length front + length rest = length-append front rest in
-    let three : length tail + length piece ≡ length magic + length rest = sym (length-append tail piece) ∙ (ap length e ∙ length-append magic rest) in
+pub passed_count : (left piece rest : List ℕ) (at : ℕ) → at + length left + length piece < 2 ^ 63 → left ++ piece ≡ magic ++ rest → 4 + length rest < 2 ^ 63
+passed_count left piece rest at h e =
+    let all : length left + length piece ≡ length magic + length rest = sym (length-append left piece) ∙ (ap length e ∙ length-append magic rest) in
     omega arith

@@ -1,4 +1,5 @@
-pub mod Seen
+pub mod Seeing
 pub mod Holding
 pub mod Answering
 pub mod Pieces
+pub mod Files

@@ -1,5 +1,5 @@
 -- What a cutter answers, over all bytes that it may have been fed.
-use Rattle.std.specs.Prelude.{◌≡◌, ◌≢◌, ◌<◌, ◌≤◌, ◌^◌, ℕ, zero, suc, ◌+◌, true, false, List, [], ◌∷◌, ◌++◌, length, take, Bool, Option, Some, None}
+use Rattle.std.specs.Prelude.{◌≡◌, ◌≢◌, ◌<◌, ◌≤◌, ◌^◌, ◌⊎◌, ℕ, zero, suc, ◌+◌, ◌-◌, true, false, List, [], ◌∷◌, ◌++◌, length, take, drop, Bool, Option, Some, None}
 use Rattle.cdc_base.specs.declared.place.Place.{Place}
 use Rattle.cdc_event.specs.declared.event.Event.{Event}
 use Rattle.cdc_event.specs.declared.fault.FileFault.{FileFault}
@@ -10,7 +10,11 @@ use Rattle.cdc_cutter.specs.declared.state.CutterState.{CutterState}
 use Rattle.cdc_cutter.specs.declared.state.CutterState.TheVariants.{Start, First, Behind, Faulty}
 use Rattle.cdc_cutter.specs.declared.cut.Cut.{Cut}
 use Rattle.cdc_cutter.specs.declared.cut.Cut.TheVariants.{Event as GivesEvent, Need, Fault as GivesFault}
+use Rattle.cdc_event.specs.View.{event_viewed}
+use Rattle.cdc_cutter.specs.declared.peek.Peek.{Peek}
+use Rattle.cdc_cutter.specs.declared.peek.Peek.TheVariants.{Event as SeesNextEvent, Need as SeesNeed, Fault as SeesFault}
 use Rattle.cdc_cutter.specs.declared.cutter.Cutter.TheInside.{Inside}
+use Rattle.cdc_cutter.specs.Pending.{pending_bytes}
 
 -- what a cutter keeps: its file, where the bytes begin that it hasn't cut, the setting there, how far it is in the file, and
 -- these bytes
@@ -21,21 +25,22 @@ pub record Cutting : Type 0 where
   pub state : CutterState
   pub rest : List ℕ
 
+-- a cutter as clauses see it: its bytes are those of the frozen front and of the growing tail
 abbrev pub cutter_seen : Inside → Cutting
-cutter_seen c = record { file = c.place.file; at = c.place.at; checksum = c.checksum; state = c.state; rest = c.pending.front ++ c.pending.tail }
+cutter_seen c = record { file = c.place.file; at = c.place.at; checksum = c.checksum; state = c.state; rest = pending_bytes c.pending }
 
--- at a file's start fewer than four bytes are there, none of them frozen
-abbrev pub IsAtStart : CutterState → ℕ → List ℕ → List ℕ → Type 0
-IsAtStart Start at front tail = (at ≡ 0) × (front ≡ []) × (length tail < 4)
-IsAtStart First at front tail = Unit {0}
-IsAtStart Behind at front tail = Unit {0}
-IsAtStart (Faulty fault) at front tail = Unit {0}
+-- at a file's start fewer than four bytes are there
+abbrev pub IsAtStart : CutterState → ℕ → List ℕ → Type 0
+IsAtStart Start at rest = (at ≡ 0) × (length rest < 4)
+IsAtStart First at rest = Unit {0}
+IsAtStart Behind at rest = Unit {0}
+IsAtStart (Faulty fault) at rest = Unit {0}
 
 -- what is true of each cutter: places stay below 2^63
 pub record IsKeptCutter (c : Inside) : Type 0 where
   pub setting : c.checksum ≤ 1
-  pub counted : c.place.at + length (c.pending.front ++ c.pending.tail) < 2 ^ 63
-  pub start : IsAtStart c.state c.place.at c.pending.front c.pending.tail
+  pub counted : c.place.at + length (pending_bytes c.pending) < 2 ^ 63
+  pub start : IsAtStart c.state c.place.at (pending_bytes c.pending)
 
 -- how a file's start, or the end of an event, is cutter_at with
 abbrev pub state_at : ℕ → CutterState
@@ -106,6 +111,49 @@ Cuts First old new cut = CutsEvent true old new cut
 Cuts Behind old new cut = CutsEvent false old new cut
 Cuts (Faulty fault) old new cut = (cut ≡ GivesFault (record { file = old.file; at = old.at }) fault) × (new ≡ old)
 
+-- the same answer with its event in place of the view
+abbrev pub cut_viewed : Peek → Cut
+cut_viewed (SeesNextEvent at end event setting) = GivesEvent at end (event_viewed event) setting
+cut_viewed SeesNeed = Need
+cut_viewed (SeesFault place fault) = GivesFault place fault
+
+-- a cutter that has passed its bytes up to the end of an event, with this setting behind it
+abbrev pub passed_to : Cutting → ℕ → ℕ → Cutting
+passed_to old end setting = record { file = old.file; at = end; checksum = setting; state = Behind; rest = drop (end - old.at) old.rest }
+
+-- the cutter behind an answer
+abbrev pub behind_cut : Cutting → Cut → Cutting
+behind_cut old (GivesEvent at end event setting) = passed_to old end.at setting
+behind_cut old Need = old
+behind_cut old (GivesFault place fault) = record old { state = Faulty fault }
+
+-- an event may be passed, up to this end and with this setting behind it
+pub record CanPass (cutter : Cutting) (end : Place) (setting : ℕ) : Type 0 where
+  pub begins : (cutter.state ≡ First) ⊎ (cutter.state ≡ Behind)
+  pub file : end.file ≡ cutter.file
+  pub order : cutter.at ≤ end.at
+  pub within : end.at ≤ cutter.at + length cutter.rest
+  pub known : setting ≤ 1
+
+-- the event that is seen may be passed
+abbrev pub MayPass : Cutting → Peek → Type 0
+MayPass cutter (SeesNextEvent at end event setting) = CanPass cutter end setting
+MayPass cutter SeesNeed = Unit {0}
+MayPass cutter (SeesFault place fault) = Unit {0}
+
+-- an answer speaks of this file
+abbrev pub IsInFile : ℕ → Cut → Type 0
+IsInFile file (GivesEvent at end event setting) = (at.file ≡ file) × (end.file ≡ file)
+IsInFile file Need = Unit {0}
+IsInFile file (GivesFault place fault) = place.file ≡ file
+
+-- no fault was met
+abbrev pub IsGoingOn : CutterState → Type 0
+IsGoingOn Start = Unit {0}
+IsGoingOn First = Unit {0}
+IsGoingOn Behind = Unit {0}
+IsGoingOn (Faulty fault) = ⊥
+
 -- what is passed at a file's start: the magic, once four bytes are there; four others are a fault
 abbrev pub PassesMagic : List ℕ → List ℕ → CutterState → Type 0
 PassesMagic bytes rest Start = (length bytes < 4) × (rest ≡ bytes)
@@ -121,6 +169,7 @@ TakesAtStart Behind bytes old new = ⊥
 TakesAtStart (Faulty fault) bytes old new =
     (4 ≤ length bytes) × (take 4 bytes ≢ magic) × (fault ≡ BadMagic) × (old.at ≡ 0) × (new ≡ record old { rest = bytes; state = Faulty BadMagic })
 
+-- a cutter with one piece more, in each state
 abbrev pub Takes : CutterState → List ℕ → Cutting → Cutting → Type 0
 Takes Start piece old new = TakesAtStart new.state (old.rest ++ piece) old new
 Takes First piece old new = new ≡ record old { rest = old.rest ++ piece }

@@ -13,7 +13,7 @@ pub enum Cut {
         event: Event,
         checksum: u8,
     },
-    /// The bytes so far hold no further whole event and no fault.
+    /// The bytes so far hold no further whole event and no fault: feed more, or at the file's end go to the next.
     Need,
     /// The file's fault, which stands at this place.
     Fault {

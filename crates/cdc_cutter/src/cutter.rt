@@ -6,18 +6,42 @@ ghost use Rattle.cdc_event.specs.File.{PlacedEvent};
 ghost use Rattle.cdc_event.specs.File.{setting_behind as specs_setting_behind};
 ghost use Rattle.cdc_event.specs.declared.fault.FileFault.{FileFault};
 ghost use Rattle.cdc_event.specs.declared.fault.FileFault.TheVariants.{Event as EventIsFaulty};
-ghost use Rattle.cdc_cutter.specs.declared.cut.Cut.TheVariants.{Event as GivesEvent, Fault as GivesFault};
+ghost use Rattle.cdc_cutter.specs.declared.cut.Cut.TheVariants.{Event as GivesEvent, Need, Fault as GivesFault};
+ghost use Rattle.cdc_cutter.specs.declared.peek.Peek.TheVariants.{Fault as SeesFault};
 ghost use Rattle.cdc_cutter.specs.declared.state.CutterState.TheVariants.{Behind, Faulty};
-ghost use Rattle.cdc_cutter.specs.Cutting.{cutter_at, Holds, Answers, BeginsEvent, CutsEvent, Cuts, PassesMagic, Takes, next_file_of};
+ghost use Rattle.cdc_cutter.specs.Cutting.{cutter_at, Holds, Answers, BeginsEvent, CutsEvent, Cuts, PassesMagic, Takes, next_file_of, cut_viewed, behind_cut, passed_to, CanPass, MayPass, IsInFile, IsGoingOn};
 
 use crate::cut::Cut;
-use crate::pending::{Look, Pending};
-use crate::state::{CutterState, MAGIC, pass_magic};
+use crate::peek::Peek;
+use crate::pending::Pending;
+use crate::seen::{Look, look_at, view_piece};
+use crate::state::{CutterState, pass_magic};
 use crate::whole::{read_piece, setting_behind};
-use cdc_base::{Blob, Memory, Place};
-use cdc_event::{Event, EventFault, FileFault, ReadError};
+use cdc_base::{Memory, Place};
+use cdc_event::{Event, EventFault, FileFault, Header, MAGIC, ReadError};
 use std::alloc::Global;
 use std::marker::Model;
+
+// The place behind an event with this header that stands at a place.
+fn end_of(at: Place, header: &Header) -> Place
+    requires { at.at < 2 ^ 63 }
+    ensures { result ≡ record { file = at.file; at = at.at + header.now.length } }
+{
+    Place {
+        at: at.at + u64::from(header.length),
+        ..at
+    }
+}
+
+// The fault of the event that begins at a place.
+fn faulty<'a>(place: Place, fault: EventFault) -> Peek<'a>
+    ensures { result ≡ SeesFault place (EventIsFaulty fault) }
+{
+    Peek::Fault {
+        place,
+        fault: FileFault::Event(fault),
+    }
+}
 
 /// Cuts the bytes of a node's log files into events.
 ///
@@ -80,9 +104,9 @@ impl Cutter {
         ensures ok { OnOk result (Takes self.old.state piece.now self.old self.new) }
         ensures err { OnErr result (self.new ≡ self.old) }
     {
-        self.pending.tail.push(piece)?;
+        self.pending.feed(self.alloc, piece)?;
         if let CutterState::Start = self.state {
-            self.state = pass_magic(&mut self.pending.tail);
+            self.state = pass_magic(&mut self.pending);
             if let CutterState::First = self.state {
                 self.place.at = MAGIC.len() as u64;
                 self.checksum = 0;
@@ -119,22 +143,88 @@ impl Cutter {
         }
     }
 
-    // Passes an event of so many bytes, which are cut off already.
-    fn pass(&mut self, event: Event, size: u32) -> Cut
+    // What stands next, where an event begins.
+    fn peek_event(&self, first: bool) -> Peek<'_>
+        requires { BeginsEvent first self.now.state }
+        ensures cut { CutsEvent first self.now (behind_cut self.now (cut_viewed result)) (cut_viewed result) }
+        ensures passable { MayPass self.now result }
+    {
+        let bytes = self.pending.bytes();
+        match look_at(bytes, self.checksum) {
+            Look::Unfinished => Peek::Need,
+            Look::Wrong(fault) => faulty(self.place, fault),
+            Look::Whole(header) => match view_piece(bytes, first, &header, self.checksum) {
+                Ok(event) => Peek::Event {
+                    at: self.place,
+                    end: end_of(self.place, &header),
+                    event,
+                    checksum: setting_behind(self.checksum, &event.body),
+                },
+                Err(fault) => faulty(self.place, fault),
+            },
+        }
+    }
+
+    /// What `next` would answer, with its event in place: nothing is taken, shared or passed. `pass` goes on behind
+    /// the event. It takes no memory.
+    pub fn peek(&self) -> Peek<'_>
+        // Whatever it may have been fed and have given, this is the answer that the fed bytes have.
+        ensures answer { (start checksum : ℕ) (fed : List ℕ) (given : List PlacedEvent) → Holds self.now start checksum fed given → Answers start checksum fed given self.now (behind_cut self.now (cut_viewed result)) (cut_viewed result) }
+        // The same in terms of the bytes that aren't cut yet.
+        ensures cut { Cuts self.now.state self.now (behind_cut self.now (cut_viewed result)) (cut_viewed result) }
+        ensures passable { MayPass self.now result }
+        ensures file { IsInFile self.now.file (cut_viewed result) }
+        ensures need { cut_viewed result ≡ Need → IsGoingOn self.now.state }
+    {
+        self.peeked()
+    }
+
+    // The same, in terms of the bytes that aren't cut.
+    fn peeked(&self) -> Peek<'_>
+        ensures cut { Cuts self.now.state self.now (behind_cut self.now (cut_viewed result)) (cut_viewed result) }
+        ensures passable { MayPass self.now result }
+    {
+        match self.state {
+            CutterState::Start => Peek::Need,
+            CutterState::First => self.peek_event(true),
+            CutterState::Behind => self.peek_event(false),
+            CutterState::Faulty(fault) => Peek::Fault {
+                place: self.place,
+                fault,
+            },
+        }
+    }
+
+    /// Passes the event that `peek` tells, by its end and the setting behind it.
+    pub fn pass(&mut self, end: Place, checksum: u8)
+        requires { CanPass self.old end checksum }
+        ensures { self.new ≡ passed_to self.old end.at checksum }
+    {
+        self.pending.advance((end.at - self.place.at) as usize);
+        self.place = end;
+        self.checksum = checksum;
+        self.state = CutterState::Behind;
+    }
+
+    // Passes an event that was read from so many bytes.
+    fn give(&mut self, event: Event, header: &Header) -> Cut
         requires known { HasKnownAlgorithm event.body }
-        requires counted { self.old.at + size + length self.old.rest < 2 ^ 63 }
-        ensures cut { result ≡ GivesEvent (record { file = self.old.file; at = self.old.at }) (record { file = self.old.file; at = self.old.at + size }) event (specs_setting_behind self.old.checksum event.body) }
-        ensures new { self.new ≡ record { file = self.old.file; at = self.old.at + size; checksum = specs_setting_behind self.old.checksum event.body; state = Behind; rest = self.old.rest } }
+        requires within { header.now.length ≤ length self.old.rest }
+        ensures cut { result ≡ GivesEvent (record { file = self.old.file; at = self.old.at }) (record { file = self.old.file; at = self.old.at + header.now.length }) event (specs_setting_behind self.old.checksum event.body) }
+        ensures new { self.new ≡ record { file = self.old.file; at = self.old.at + header.now.length; checksum = specs_setting_behind self.old.checksum event.body; state = Behind; rest = drop header.now.length self.old.rest } }
     {
         let at = self.place;
-        self.place.at += u64::from(size);
-        self.checksum = setting_behind(self.checksum, &event.body);
+        let end = end_of(at, header);
+        let checksum = setting_behind(self.checksum, &event.body.view());
+        self.pending.advance(header.length as usize);
+        self.place = end;
+        self.checksum = checksum;
         self.state = CutterState::Behind;
         Cut::Event {
             at,
-            end: self.place,
+            end,
             event,
-            checksum: self.checksum,
+            checksum,
         }
     }
 
@@ -144,15 +234,12 @@ impl Cutter {
         ensures cut { IfOk result (CutsEvent first self.old self.new) }
         ensures err { OnErr result (self.new ≡ self.old) }
     {
-        match self.pending.look(self.alloc, self.checksum)? {
+        match look_at(self.pending.bytes(), self.checksum) {
             Look::Unfinished => Ok(Cut::Need),
             Look::Wrong(fault) => Ok(self.stop(fault)),
             Look::Whole(header) => {
-                match read_piece(&self.pending.front, first, &header, self.checksum) {
-                    Ok(event) => {
-                        self.pending.front.advance(header.length as usize);
-                        Ok(self.pass(event, header.length))
-                    }
+                match read_piece(&mut self.pending, first, &header, self.checksum) {
+                    Ok(event) => Ok(self.give(event, &header)),
                     Err(ReadError::Fault(fault)) => Ok(self.stop(fault)),
                     Err(ReadError::Memory) => Err(Memory),
                 }
@@ -188,6 +275,8 @@ impl Cutter {
         ensures cut { IfOk result (Cuts self.old.state self.old self.new) }
         ensures again { (fault : FileFault) → self.old.state ≡ Faulty fault → IsOk result }
         ensures err { OnErr result (self.new ≡ self.old) }
+        ensures file { IfOk result (λ cut. (self.new.file ≡ self.old.file) × IsInFile self.old.file cut) }
+        ensures need { IfOk result (λ cut. cut ≡ Need → IsGoingOn self.new.state) }
     {
         self.step()
     }
@@ -197,7 +286,7 @@ impl Cutter {
         ensures { result ≡ record { file = self.now.file; at = self.now.at + length self.now.rest } }
     {
         Place {
-            at: self.place.at + self.pending.len(),
+            at: self.place.at + self.pending.bytes().len() as u64,
             ..self.place
         }
     }
@@ -211,8 +300,7 @@ impl Cutter {
         if let CutterState::Faulty(_) = self.state {
             return;
         }
-        self.pending.front = Blob::empty();
-        self.pending.tail.truncate(0);
+        self.pending = Pending::new(self.alloc);
         self.place = Place {
             file: self.place.file + 1,
             at: 0,

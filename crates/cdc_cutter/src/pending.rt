@@ -1,119 +1,93 @@
 //! The bytes that aren't cut yet.
 
-ghost use Rattle.std.specs.Prelude.{◌≡◌, ◌<◌, ◌≤◌, ◌++◌, ◌^◌, [], length, drop, None, IfSome, IfOk, OnOk, OnErr};
-ghost use Rattle.cdc_event.specs.File.{BeginsWith};
-ghost use Rattle.cdc_cutter.specs.Looks.{Sees, IsAllIn};
+ghost use Rattle.std.specs.Prelude.{◌≡◌, ◌<◌, ◌≤◌, ◌++◌, ◌^◌, [], length, drop, slice_range, IfOk, OnOk, OnErr};
+ghost use Rattle.cdc_base.specs.Bytes.{AreBytes};
+ghost use Rattle.cdc_cutter.specs.Pending.{pending_bytes};
 
 use cdc_base::{Blob, Buffer, Memory};
-use cdc_event::{EventFault, HEADER_LENGTH, Header, check_length, read_header};
 use std::alloc::Global;
 
-/// What stands where an event may begin.
-#[derive(Clone, Copy, Debug)]
-pub enum Look {
-    /// Less than a whole event, with a good length as far as it is there.
-    Unfinished,
-    /// A header with a length that no event has.
-    Wrong(EventFault),
-    /// As many bytes as this header counts.
-    Whole(Header),
-}
-
-// The header at the front of these bytes, where they have as many.
-fn header_in(bytes: &[u8]) -> Option<Header>
-    ensures some { IfSome result (λ header. BeginsWith bytes.now header (drop 19 bytes.now)) }
-    ensures none { result ≡ None → length bytes.now < 19 }
-{
-    let front = bytes.first_chunk::<HEADER_LENGTH>()?;
-    Some(read_header(front))
-}
-
-// What stands at the front of these bytes.
-fn look_at(bytes: &[u8], checksum: u8) -> Look
-    requires { checksum ≤ 1 }
-    ensures { Sees checksum bytes.now result }
-{
-    let Some(header) = header_in(bytes) else {
-        return Look::Unfinished;
-    };
-    match check_length(&header, checksum) {
-        Err(fault) => Look::Wrong(fault),
-        Ok(()) if bytes.len() < header.length as usize => Look::Unfinished,
-        Ok(()) => Look::Whole(header),
-    }
-}
-
-/// The bytes of a file that aren't cut yet: those of `front`, from which whole events are cut with no copy, and
-/// behind them those of `tail`, to which pieces are appended.
+/// The bytes of a file that aren't cut yet, one behind another.
 #[derive(Debug, Drop)]
-pub struct Pending {
-    pub front: Blob,
-    pub tail: Buffer,
+pub enum Pending {
+    /// As they were fed: the next piece is appended.
+    Fed(Buffer),
+    /// To be shared by the events that are cut from them: the next piece is joined with what is left of them.
+    Shared(Blob),
+}
+
+// What is left, and a piece behind it.
+fn joined(alloc: Global, rest: &Blob, piece: &[u8]) -> Result<Buffer, Memory>
+    ensures { IfOk result (λ joined. joined ≡ rest.now ++ piece.now) }
+{
+    let room = rest.len().saturating_add(piece.len());
+    let mut joined = Buffer::with_room(alloc, room)?;
+    joined.push(rest.bytes())?;
+    joined.push(piece)?;
+    Ok(joined)
 }
 
 impl Pending {
     /// No bytes, which takes no memory.
     pub fn new(alloc: Global) -> Pending
-        ensures front { result.front ≡ [] }
-        ensures tail { result.tail ≡ [] }
+        ensures { pending_bytes result ≡ [] }
     {
-        Pending {
-            front: Blob::empty(),
-            tail: Buffer::new(alloc),
+        Pending::Fed(Buffer::new(alloc))
+    }
+
+    /// All bytes.
+    pub fn bytes(&self) -> &[u8]
+        ensures value { result.now ≡ pending_bytes self.now }
+        ensures each { AreBytes (pending_bytes self.now) }
+    {
+        match self {
+            Pending::Fed(buffer) => buffer.bytes(),
+            Pending::Shared(blob) => blob.bytes(),
         }
     }
 
-    /// How many bytes there are.
-    pub fn len(&self) -> u64
-        requires { length (self.now.front ++ self.now.tail) < 2 ^ 63 }
-        ensures { result ≡ length (self.now.front ++ self.now.tail) }
-    {
-        self.front.len() as u64 + self.tail.len() as u64
-    }
-
-    // All bytes in the tail. A front that is left is less than one event, so each byte comes here once at most.
-    fn join(&mut self, alloc: Global) -> Result<(), Memory>
-        ensures front { OnOk result (self.new.front ≡ []) }
-        ensures tail { OnOk result (self.new.tail ≡ self.old.front ++ self.old.tail) }
+    /// Appends a piece. A rest that is shared is less than one event where the caller fed for want of one: so each
+    /// byte is moved here once, and once more at most where its event goes over the end of a piece.
+    pub fn feed(&mut self, alloc: Global, piece: &[u8]) -> Result<(), Memory>
+        ensures ok { OnOk result (pending_bytes self.new ≡ pending_bytes self.old ++ piece.now) }
         ensures err { OnErr result (self.new ≡ self.old) }
     {
-        if self.front.is_empty() {
-            return Ok(());
+        match self {
+            Pending::Fed(buffer) => buffer.push(piece),
+            Pending::Shared(rest) => {
+                let joined = joined(alloc, rest, piece)?;
+                *self = Pending::Fed(joined);
+                Ok(())
+            }
         }
-        let room = self.front.len().saturating_add(self.tail.len());
-        let mut joined = Buffer::with_room(alloc, room)?;
-        joined.push(self.front.bytes())?;
-        joined.push(self.tail.bytes())?;
-        self.front = Blob::empty();
-        self.tail = joined;
-        Ok(())
     }
 
-    // What stands at the front of all bytes, where that isn't seen by the front alone.
-    fn look_at_all(&mut self, alloc: Global, checksum: u8) -> Result<Look, Memory>
-        requires { checksum ≤ 1 }
-        ensures bytes { self.new.front ++ self.new.tail ≡ self.old.front ++ self.old.tail }
-        ensures seen { IfOk result (Sees checksum (self.old.front ++ self.old.tail)) }
-        ensures whole { IfOk result (IsAllIn self.new.front) }
+    /// Drops the first `by` bytes.
+    pub fn advance(&mut self, by: usize)
+        requires { by ≤ length (pending_bytes self.old) }
+        ensures { pending_bytes self.new ≡ drop by (pending_bytes self.old) }
     {
-        self.join(alloc)?;
-        let seen = look_at(self.tail.bytes(), checksum);
-        if matches!(seen, Look::Whole(_)) {
-            self.front = self.tail.freeze_to(self.tail.len())?;
+        match self {
+            Pending::Fed(buffer) => buffer.advance(by),
+            Pending::Shared(blob) => blob.advance(by),
         }
-        Ok(seen)
     }
 
-    /// What stands at the front of all bytes, which stay as they are; a whole event stands in `front`.
-    pub fn look(&mut self, alloc: Global, checksum: u8) -> Result<Look, Memory>
-        requires { checksum ≤ 1 }
-        ensures bytes { self.new.front ++ self.new.tail ≡ self.old.front ++ self.old.tail }
-        ensures seen { IfOk result (Sees checksum (self.old.front ++ self.old.tail)) }
-        ensures whole { IfOk result (IsAllIn self.new.front) }
+    /// The bytes `from` to `to` (not included), shared. All bytes stay.
+    pub fn part(&mut self, from: usize, to: usize) -> Result<Blob, Memory>
+        requires ordered { from ≤ to }
+        requires within { to ≤ length (pending_bytes self.old) }
+        ensures part { IfOk result (λ part. part ≡ slice_range (pending_bytes self.old) from to) }
+        ensures kept { pending_bytes self.new ≡ pending_bytes self.old }
     {
-        match look_at(self.front.bytes(), checksum) {
-            Look::Unfinished => self.look_at_all(alloc, checksum),
-            seen => Ok(seen),
+        match self {
+            Pending::Fed(buffer) => {
+                let all = buffer.freeze_to(buffer.len())?;
+                let part = all.part(from, to);
+                *self = Pending::Shared(all);
+                part
+            }
+            Pending::Shared(blob) => blob.part(from, to),
         }
     }
 }

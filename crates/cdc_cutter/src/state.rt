@@ -1,12 +1,10 @@
 //! How far a cutter is in its file.
 
 ghost use Rattle.cdc_cutter.specs.Cutting.{PassesMagic};
+ghost use Rattle.cdc_cutter.specs.Pending.{pending_bytes};
 
-use cdc_base::Buffer;
-use cdc_event::FileFault;
-
-/// The four bytes that begin a log file.
-pub(crate) const MAGIC: [u8; 4] = [254, 98, 105, 110];
+use crate::pending::Pending;
+use cdc_event::{FileFault, MAGIC};
 
 /// Where in its file a cutter stands.
 #[derive(Clone, Copy, Debug)]
@@ -22,8 +20,8 @@ pub enum CutterState {
 }
 
 /// Passes the magic at a file's start, once it is there: where the bytes stand then.
-pub fn pass_magic(bytes: &mut Buffer) -> CutterState
-    ensures { PassesMagic bytes.old bytes.new result }
+pub fn pass_magic(bytes: &mut Pending) -> CutterState
+    ensures { PassesMagic (pending_bytes bytes.old) (pending_bytes bytes.new) result }
 {
     let Some(front) = bytes.bytes().first_chunk::<4>() else {
         return CutterState::Start;

@@ -10,6 +10,9 @@ use crate::fault::EventFault;
 use crate::kind::FORMAT;
 use crate::number::{number_2, number_4};
 
+/// The four bytes that begin a log file.
+pub const MAGIC: [u8; 4] = [254, 98, 105, 110];
+
 /// The bytes of a header.
 pub const HEADER_LENGTH: usize = 19;
 

@@ -38,7 +38,7 @@ pub(crate) fn bytes_8(number: u64) -> [u8; 8]
 
 /// The number that two bytes spell.
 #[tactic(auto, using(crate::proofs::Numbers::number_of_2))]
-pub(crate) fn number_2(bytes: &[u8]) -> u16
+pub fn number_2(bytes: &[u8]) -> u16
     requires { length bytes.now ≡ 2 }
     ensures { result ≡ number_of bytes.now }
 {

@@ -5,7 +5,7 @@ ghost use Rattle.cdc_files.specs.Share.{shares, shares_fit};
 
 use crate::counted::counted;
 use cdc_base::{Memory, Place};
-use cdc_outside::{Failed, Source, lowest_place};
+use cdc_outside::{Failed, Source, highest_place, lowest_place};
 use std::alloc::Global;
 use std::io::{Read, Seek, SeekFrom};
 
@@ -21,6 +21,7 @@ pub struct FileSource<F> {
     /// The file that was read last and the place where it stands, so that reading on needs no seek.
     stands: Option<Place>,
     lowest: Option<Place>,
+    highest: Option<Place>,
     faults: u64,
     ghost few: { length files.items < 2 ^ 32 },
 }
@@ -31,6 +32,7 @@ impl<F: Read + Seek + Drop> FileSource<F> {
         requires { length files.items < 2 ^ 32 }
         ensures sizes { ⟦<FileSource<F> as Source>⟧.sizes result ≡ shares (length files.items) }
         ensures lowest { ⟦<FileSource<F> as Source>⟧.lowest result ≡ None }
+        ensures highest { ⟦<FileSource<F> as Source>⟧.highest result ≡ None }
         ensures faults { ⟦<FileSource<F> as Source>⟧.faults result ≡ 0 }
     {
         let all_open = files.iter().all(|file| file.is_some());
@@ -39,6 +41,7 @@ impl<F: Read + Seek + Drop> FileSource<F> {
             all_open,
             stands: None,
             lowest: None,
+            highest: None,
             faults: 0,
         }
     }
@@ -47,6 +50,7 @@ impl<F: Read + Seek + Drop> FileSource<F> {
     pub fn single(alloc: Global, file: Option<F>) -> Result<FileSource<F>, Memory>
         ensures sizes { IfOk result (λ source. ⟦<FileSource<F> as Source>⟧.sizes source ≡ 2 ^ 54 ∷ []) }
         ensures lowest { IfOk result (λ source. ⟦<FileSource<F> as Source>⟧.lowest source ≡ None) }
+        ensures highest { IfOk result (λ source. ⟦<FileSource<F> as Source>⟧.highest source ≡ None) }
         ensures faults { IfOk result (λ source. ⟦<FileSource<F> as Source>⟧.faults source ≡ 0) }
     {
         let mut files = Vec::new(alloc);
@@ -79,6 +83,7 @@ impl<F: Read + Seek + Drop> FileSource<F> {
         ensures within { IfSome result (λ bytes. bytes ≤ 2 ^ 54 / length self.old.files.items) }
         ensures files { length self.new.files.items ≡ length self.old.files.items }
         ensures lowest { self.new.lowest ≡ self.old.lowest }
+        ensures highest { self.new.highest ≡ self.old.highest }
         ensures faults { self.new.faults ≡ self.old.faults }
     {
         let share = MOST_BYTES / self.files.len() as u64;
@@ -98,6 +103,7 @@ impl<F: Read + Seek + Drop> FileSource<F> {
         ensures within { IfSome result (λ read. read ≤ length into.old) }
         ensures files { length self.new.files.items ≡ length self.old.files.items }
         ensures lowest { self.new.lowest ≡ self.old.lowest }
+        ensures highest { self.new.highest ≡ self.old.highest }
         ensures faults { self.new.faults ≡ self.old.faults }
     {
         let goes_on = self.stands == Some(place);
@@ -150,6 +156,8 @@ impl<F: Read + Seek + Drop> Source for FileSource<F> {
 
     ghost lowest = { λ source. source.lowest };
 
+    ghost highest = { λ source. source.highest };
+
     ghost faults = { λ source. source.faults };
 
     ghost limit = { λ source. shares_fit (length source.files.items) };
@@ -167,6 +175,7 @@ impl<F: Read + Seek + Drop> Source for FileSource<F> {
 
     fn read_at(&mut self, file: u32, at: u64, into: &mut [u8]) -> Result<usize, Failed> {
         self.lowest = lowest_place(self.lowest, file, at);
+        self.highest = highest_place(self.highest, file, at, into.len());
         let read = self.read(Place { file, at }, into);
         counted(read, &mut self.faults)
     }

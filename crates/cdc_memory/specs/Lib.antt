@@ -1,3 +1,12 @@
 pub mod Calls
+pub mod DiskFiles
+pub mod Door
+pub mod Link
+pub mod MemDisk
+pub mod Moments
+pub mod Replay
+pub mod Returned
+pub mod Salt
 pub mod Sink
 pub mod Source
+pub mod Wire

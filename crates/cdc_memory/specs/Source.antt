@@ -13,6 +13,10 @@ held_files source = source.files.files.items
 abbrev pub lowest_of : MemSource → Option Place
 lowest_of source = source.files.lowest
 
+-- the greatest place behind what was asked for
+abbrev pub highest_of : MemSource → Option Place
+highest_of source = source.files.highest
+
 -- its calls so far
 abbrev pub calls_of : MemSource → Calls
 calls_of source = source.calls
@@ -21,5 +25,10 @@ calls_of source = source.calls
 abbrev pub pure_held_files : PureSource → List (List ℕ)
 pure_held_files source = source.files.files.items
 
+-- the least place that was asked of it
 abbrev pub pure_lowest_of : PureSource → Option Place
 pure_lowest_of source = source.files.lowest
+
+-- the greatest place behind what was asked of it
+abbrev pub pure_highest_of : PureSource → Option Place
+pure_highest_of source = source.files.highest

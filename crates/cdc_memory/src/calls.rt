@@ -1,8 +1,8 @@
 //! Which calls of a device fail.
 
-ghost use Rattle.std.specs.Prelude.{◌≡◌, ◌≤◌, ◌↔◌, IsTrue, IsErr, IfOk};
+ghost use Rattle.std.specs.Prelude.{◌≡◌, ◌≤◌, ◌↔◌, false, nat_le, IsTrue, IsErr, IsOk, IfOk};
 ghost use Rattle.cdc_outside.specs.Count.{Rose};
-ghost use Rattle.cdc_memory.specs.Calls.{Calls, at_first, is_failing, after_call};
+ghost use Rattle.cdc_memory.specs.Calls.{Calls, at_first, counted, is_failing, after_call};
 
 use cdc_base::Memory;
 use cdc_outside::Failed;
@@ -43,6 +43,7 @@ impl CallPlan {
         ensures after { self.new ≡ after_call barred self.old }
         ensures later { self.old.faults ≤ self.new.faults }
         ensures rose { IsErr result → Rose self.old.faults self.new.faults }
+        ensures passed { IsOk result → barred ≡ false }
     {
         self.calls = self.calls.saturating_add(1);
         if barred || self.fails.contains(&self.calls) {
@@ -50,6 +51,20 @@ impl CallPlan {
             return Err(Failed);
         }
         Ok(())
+    }
+
+    /// How many calls there were.
+    pub fn calls(&self) -> u64
+        ensures { result ≡ self.now.calls }
+    {
+        self.calls
+    }
+
+    /// Whether the next call is this one or a later one.
+    pub fn reaches(&self, call: u64) -> bool
+        ensures { result ≡ nat_le call (counted self.now.calls) }
+    {
+        call <= self.calls.saturating_add(1)
     }
 
     /// How many calls failed.

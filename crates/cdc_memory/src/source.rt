@@ -1,8 +1,8 @@
 //! Sources in memory.
 
-ghost use Rattle.std.specs.Prelude.{◌≡◌, ◌≤◌, ◌<◌, ◌-◌, ◌^◌, IsTrue, false, true, refl, length, map, min, sum, None, IfOk, IsOk};
+ghost use Rattle.std.specs.Prelude.{◌≡◌, ◌≤◌, ◌<◌, ◌-◌, ◌^◌, false, true, refl, length, map, min, sum, None, IfOk, IsOk};
 ghost use Rattle.cdc_outside.specs.Count.{RisesOnErr};
-ghost use Rattle.cdc_outside.specs.Source.{file_of, size_of, lowered, ReadsFile};
+ghost use Rattle.cdc_outside.specs.Source.{behind, file_of, lowered, raised, ReadsFile};
 ghost use Rattle.cdc_memory.specs.Calls.{at_first, Counts};
 
 use crate::calls::CallPlan;
@@ -19,7 +19,7 @@ pub struct MemSource {
 }
 
 impl MemSource {
-    ghost use Rattle.cdc_memory.specs.Source.{held_files, lowest_of, calls_of};
+    ghost use Rattle.cdc_memory.specs.Source.{held_files, lowest_of, highest_of, calls_of};
 
     /// These files, their bytes shared. The k-th call (from 1, of any kind) fails for each k of `fails`, and no
     /// other does.
@@ -28,6 +28,7 @@ impl MemSource {
         requires fit { sum (map length files.now) ≤ 2 ^ 54 }
         ensures files { IfOk result (λ source. held_files source ≡ files.now) }
         ensures lowest { IfOk result (λ source. lowest_of source ≡ None) }
+        ensures highest { IfOk result (λ source. highest_of source ≡ None) }
         ensures calls { IfOk result (λ source. calls_of source ≡ at_first fails.now) }
     {
         Ok(MemSource {
@@ -52,7 +53,7 @@ impl MemSource {
 }
 
 impl Source for MemSource {
-    ghost use Rattle.cdc_memory.specs.Source.{held_files, lowest_of, calls_of};
+    ghost use Rattle.cdc_memory.specs.Source.{held_files, lowest_of, highest_of, calls_of};
 
     ghost tells = { true };
 
@@ -61,6 +62,8 @@ impl Source for MemSource {
     ghost sizes = { λ source. map length (held_files source) };
 
     ghost lowest = { lowest_of };
+
+    ghost highest = { highest_of };
 
     ghost faults = { λ source. (calls_of source).faults };
 
@@ -72,6 +75,7 @@ impl Source for MemSource {
         ensures number { IfOk result (λ number. number ≡ length (held_files self.old)) }
         ensures held { held_files self.new ≡ held_files self.old }
         ensures lowest { lowest_of self.new ≡ lowest_of self.old }
+        ensures highest { highest_of self.new ≡ highest_of self.old }
         ensures faults { RisesOnErr (calls_of self.old).faults (calls_of self.new).faults result }
         ensures call { Counts false (calls_of self.old) (calls_of self.new) result }
     {
@@ -85,6 +89,7 @@ impl Source for MemSource {
         ensures exact { IfOk result (λ bytes. bytes ≡ length (file_of (held_files self.old) file)) }
         ensures held { held_files self.new ≡ held_files self.old }
         ensures lowest { lowest_of self.new ≡ lowest_of self.old }
+        ensures highest { highest_of self.new ≡ highest_of self.old }
         ensures faults { RisesOnErr (calls_of self.old).faults (calls_of self.new).faults result }
         ensures call { Counts false (calls_of self.old) (calls_of self.new) result }
     {
@@ -99,10 +104,11 @@ impl Source for MemSource {
         ensures full { IfOk result (λ read. read ≡ min (length into.old) (length (file_of (held_files self.old) file) - at)) }
         ensures held { held_files self.new ≡ held_files self.old }
         ensures lowest { lowest_of self.new ≡ lowered (lowest_of self.old) file at }
+        ensures highest { highest_of self.new ≡ raised (highest_of self.old) file (behind at (length into.old)) }
         ensures faults { RisesOnErr (calls_of self.old).faults (calls_of self.new).faults result }
         ensures call { Counts false (calls_of self.old) (calls_of self.new) result }
     {
-        self.files.ask(file, at);
+        self.files.ask(file, at, into.len());
         self.calls.count(false)?;
         Ok(self.files.read(file, at, into))
     }
@@ -115,7 +121,7 @@ pub struct PureSource {
 }
 
 impl PureSource {
-    ghost use Rattle.cdc_memory.specs.Source.{pure_held_files, pure_lowest_of};
+    ghost use Rattle.cdc_memory.specs.Source.{pure_held_files, pure_lowest_of, pure_highest_of};
 
     /// These files, their bytes shared.
     pub fn new(alloc: Global, files: &[Blob]) -> Result<PureSource, Memory>
@@ -123,6 +129,7 @@ impl PureSource {
         requires fit { sum (map length files.now) ≤ 2 ^ 54 }
         ensures files { IfOk result (λ source. pure_held_files source ≡ files.now) }
         ensures lowest { IfOk result (λ source. pure_lowest_of source ≡ None) }
+        ensures highest { IfOk result (λ source. pure_highest_of source ≡ None) }
     {
         Ok(PureSource {
             files: MemFiles::new(alloc, files)?,
@@ -138,7 +145,7 @@ impl PureSource {
 }
 
 impl Source for PureSource {
-    ghost use Rattle.cdc_memory.specs.Source.{pure_held_files, pure_lowest_of};
+    ghost use Rattle.cdc_memory.specs.Source.{pure_held_files, pure_lowest_of, pure_highest_of};
 
     ghost tells = { true };
 
@@ -147,6 +154,8 @@ impl Source for PureSource {
     ghost sizes = { λ source. map length (pure_held_files source) };
 
     ghost lowest = { pure_lowest_of };
+
+    ghost highest = { pure_highest_of };
 
     ghost faults = { λ _. 0 };
 
@@ -159,6 +168,7 @@ impl Source for PureSource {
         ensures number { IfOk result (λ number. number ≡ length (pure_held_files self.old)) }
         ensures held { pure_held_files self.new ≡ pure_held_files self.old }
         ensures lowest { pure_lowest_of self.new ≡ pure_lowest_of self.old }
+        ensures highest { pure_highest_of self.new ≡ pure_highest_of self.old }
     {
         Ok(self.files.number())
     }
@@ -170,6 +180,7 @@ impl Source for PureSource {
         ensures exact { IfOk result (λ bytes. bytes ≡ length (file_of (pure_held_files self.old) file)) }
         ensures held { pure_held_files self.new ≡ pure_held_files self.old }
         ensures lowest { pure_lowest_of self.new ≡ pure_lowest_of self.old }
+        ensures highest { pure_highest_of self.new ≡ pure_highest_of self.old }
     {
         Ok(self.files.length(file))
     }
@@ -182,8 +193,9 @@ impl Source for PureSource {
         ensures full { IfOk result (λ read. read ≡ min (length into.old) (length (file_of (pure_held_files self.old) file) - at)) }
         ensures held { pure_held_files self.new ≡ pure_held_files self.old }
         ensures lowest { pure_lowest_of self.new ≡ lowered (pure_lowest_of self.old) file at }
+        ensures highest { pure_highest_of self.new ≡ raised (pure_highest_of self.old) file (behind at (length into.old)) }
     {
-        self.files.ask(file, at);
+        self.files.ask(file, at, into.len());
         Ok(self.files.read(file, at, into))
     }
 }

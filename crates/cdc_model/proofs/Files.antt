@@ -11,7 +11,7 @@ use Rattle.cdc_model.proofs.ClosedFiles.{FillNone, AreClosedFiles, not_before_la
 
 -- ---- one step more
 
-after_append : (rules : List Rename) (rotation : ℕ) (output : Output) (front back : List Transaction)
+pub after_append : (rules : List Rename) (rotation : ℕ) (output : Output) (front back : List Transaction)
     → output_after rules rotation output (front ++ back) ≡ output_after rules rotation (output_after rules rotation output front) back
 after_append rules rotation output [] back = refl
 after_append rules rotation output (txn ∷ front) back = after_append rules rotation (output_with rules rotation output txn) front back

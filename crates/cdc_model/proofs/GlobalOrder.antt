@@ -12,7 +12,7 @@ use Rattle.cdc_model.proofs.SettledKeys.{settled_sorted, in_settled}
 abbrev pub keys_in : List Transaction → List Key
 keys_in txns = map (λ (txn : Transaction). txn.key) txns
 
-keys_kept : (branches : List CommittedBranch) (number : ℕ) (keys : List Key) → keys_in (transactions_of branches number keys) ≡ keys
+pub keys_kept : (branches : List CommittedBranch) (number : ℕ) (keys : List Key) → keys_in (transactions_of branches number keys) ≡ keys
 keys_kept branches number [] = refl
 keys_kept branches number (key ∷ keys) = ap (λ (rest : List Key). key ∷ rest) (keys_kept branches (number + 1) keys)
 

@@ -15,7 +15,8 @@ use Rattle.cdc_model.specs.Group.{Says, Content, TableRows, OneStatement, rows_o
 use Rattle.cdc_model.specs.Misfit.{unless_same, misfit_phase}
 use Rattle.cdc_model.proofs.OpenBranches.{same_xid_laws}
 use Rattle.cdc_model.proofs.SameXid.{no_test}
-use Rattle.cdc_model.proofs.GroupMachine.{entry_at, prepared, Ending, Reached, outcome}
+use Rattle.cdc_model.specs.Advance.{entry_at, prepared}
+use Rattle.cdc_model.proofs.GroupMachine.{Ending, Reached, outcome}
 use Rattle.cdc_model.proofs.GroupRuns.{Leads, Passes, passes_on, runs_then, ends_entry, all_pass, rows_pass, outcome_append, joined, cons_option_list}
 
 -- ---- signs that lead nowhere

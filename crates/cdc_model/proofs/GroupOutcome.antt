@@ -12,7 +12,8 @@ use Rattle.cdc_model.specs.Sign.{SignedEvent}
 use Rattle.cdc_model.specs.Group.{Progress, Out}
 use Rattle.cdc_model.specs.Misfit.{misfit}
 use Rattle.cdc_model.specs.Entries.{ReadsTo, CeasesToFit, file_fault, AreEntriesOfEvents, EventsHaveEntries}
-use Rattle.cdc_model.proofs.GroupMachine.{advance, given, Ending, Reached, Misplaced, judged, outcome}
+use Rattle.cdc_model.specs.Advance.{advance, entry_given}
+use Rattle.cdc_model.proofs.GroupMachine.{Ending, Reached, Misplaced, judged, outcome}
 use Rattle.cdc_model.proofs.GroupRuns.{outcome_led}
 use Rattle.cdc_model.proofs.GroupReading.{reads_on, reads_nothing, told_misfits}
 
@@ -38,8 +39,8 @@ ceased_first : (file : ℕ) (progress : Progress) (event : SignedEvent) (events 
     → misfit progress event.sign ≡ told
     → ((outcome file (advance progress event.sign) events).1 ≡ Misplaced misplaced fault
     → Ceased file (advance progress event.sign) events (outcome file (advance progress event.sign) events).0 misplaced fault)
-    → (judged event told (given file progress event) (outcome file (advance progress event.sign) events)).1 ≡ Misplaced misplaced fault
-    → Ceased file progress (event ∷ events) (judged event told (given file progress event) (outcome file (advance progress event.sign) events)).0 misplaced fault
+    → (judged event told (entry_given file progress event) (outcome file (advance progress event.sign) events)).1 ≡ Misplaced misplaced fault
+    → Ceased file progress (event ∷ events) (judged event told (entry_given file progress event) (outcome file (advance progress event.sign) events)).0 misplaced fault
 ceased_first file progress event events misplaced fault None fits later is =
     let rest = later is in record {
       front = event ∷ rest.front;
@@ -47,7 +48,7 @@ ceased_first file progress event events misplaced fault None fits later is =
       last = rest.last;
       events_in_order = ap (λ (list : List SignedEvent). event ∷ list) rest.events_in_order;
       passes = outcome_led file progress (advance progress event.sign) event rest.front _ record { fits = fits; to = refl; gives = refl }
-          ∙ ap (λ (o : List LogEntry × Ending). (cons_option (given file progress event) o.0, o.1)) rest.passes;
+          ∙ ap (λ (o : List LogEntry × Ending). (cons_option (entry_given file progress event) o.0, o.1)) rest.passes;
       told = rest.told;
     }
 ceased_first file progress event events misplaced fault (Some wrong) told later is = record {

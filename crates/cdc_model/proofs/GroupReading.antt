@@ -11,7 +11,8 @@ use Rattle.cdc_model.specs.Sign.{Sign, SignedEvent, PrepareEvent, CommitText, Xa
 use Rattle.cdc_model.specs.Group.{Content, IsItem, ReadsItems, Fits, Progress, Out, Wait, Xa, End, Local, Reaches}
 use Rattle.cdc_model.specs.Misfit.{misfit}
 use Rattle.cdc_model.specs.Entries.{ReadsTo, EventsHaveOneReading, OneProgress, FittingIsRead, FrontsFit, MisfitsAreTold}
-use Rattle.cdc_model.proofs.GroupMachine.{advance, given, Ending, Reached, Misplaced, judged, outcome}
+use Rattle.cdc_model.specs.Advance.{advance, entry_given}
+use Rattle.cdc_model.proofs.GroupMachine.{Ending, Reached, Misplaced, judged, outcome}
 use Rattle.cdc_model.proofs.GroupRuns.{joined, outcome_append, outcome_led, cons_option_list}
 use Rattle.cdc_model.proofs.GroupItems.{reads_run, reaches_passes, end_leads, named}
 use Rattle.cdc_model.proofs.GroupSteps.{Goes, one_more}
@@ -92,9 +93,9 @@ reads_one_more file front entries progress next event entry reads (inr (out, ite
 -- one event more that fits
 pub reads_next : (file : ℕ) (front : List SignedEvent) (entries : List LogEntry) (progress : Progress) (event : SignedEvent)
     → ReadsTo file front entries progress → misfit progress event.sign ≡ None
-    → ReadsTo file (front ++ event ∷ []) (entries ++ option_to_list (given file progress event)) (advance progress event.sign)
+    → ReadsTo file (front ++ event ∷ []) (entries ++ option_to_list (entry_given file progress event)) (advance progress event.sign)
 reads_next file front entries progress event reads fits =
-    reads_one_more file front entries progress (advance progress event.sign) event (given file progress event) reads
+    reads_one_more file front entries progress (advance progress event.sign) event (entry_given file progress event) reads
     (one_more file progress reads.part event reads.reaches fits)
 
 -- a first event that fits, and the rest of a run that ends at a progress
@@ -113,7 +114,7 @@ reads_on file [] front entries progress last reads is =
     (subst (ReadsTo file front entries) (ap reached_by is) reads))
 reads_on file (event ∷ events) front entries progress last reads is =
     let next = advance progress event.sign in
-    let entry = given file progress event in
+    let entry = entry_given file progress event in
     let first = run_first event (misfit progress event.sign) entry (outcome file next events) last is in
     let more : ReadsTo file ((front ++ event ∷ []) ++ events) ((entries ++ option_to_list entry) ++ (outcome file next events).0) last =
     reads_on file events (front ++ event ∷ []) (entries ++ option_to_list entry) next last (reads_next file front entries progress event reads first.0) first.1 in
@@ -148,7 +149,7 @@ ending (Local rows) = event_of CommitText ∷ []
 prepare_ends : (file : ℕ) (time : Option ℕ) (xid : Xid) (content : Content) (one_phase : ℕ) → misfit (End time xid content) (PrepareEvent one_phase xid) ≡ None
     → (outcome file (End time xid content) (event_of (PrepareEvent one_phase xid) ∷ [])).1 ≡ Reached Out
 prepare_ends file time xid content one_phase fits =
-    ap (λ (f : Option GroupFault). (judged (event_of (PrepareEvent one_phase xid)) f (given file (End time xid content) (event_of (PrepareEvent one_phase xid))) ([], Reached Out)).1) fits
+    ap (λ (f : Option GroupFault). (judged (event_of (PrepareEvent one_phase xid)) f (entry_given file (End time xid content) (event_of (PrepareEvent one_phase xid))) ([], Reached Out)).1) fits
 
 group_ends : (file : ℕ) (time : Option ℕ) (xid : Xid) (content : Content) (last : SignedEvent)
     → (outcome file (End time xid content) (last ∷ [])).1 ≡ Reached Out → (outcome file (Xa time xid content) (event_of (XaEndText xid) ∷ last ∷ [])).1 ≡ Reached Out
@@ -214,8 +215,8 @@ run_ceases file front behind entries progress misplaced fault reads told =
     outcome_append file Out front (misplaced ∷ behind)
     ∙ ap (λ (o : List LogEntry × Ending). joined file o (misplaced ∷ behind)) (reads_to_run file front entries progress reads)
     ∙ ap (λ (f : Option GroupFault). (
-      entries ++ (judged misplaced f (given file progress misplaced) (outcome file (advance progress misplaced.sign) behind)).0,
-      (judged misplaced f (given file progress misplaced) (outcome file (advance progress misplaced.sign) behind)).1,
+      entries ++ (judged misplaced f (entry_given file progress misplaced) (outcome file (advance progress misplaced.sign) behind)).0,
+      (judged misplaced f (entry_given file progress misplaced) (outcome file (advance progress misplaced.sign) behind)).1,
     )) told
     ∙ ap (λ (list : List LogEntry). (list, Misplaced misplaced fault)) (append-nil entries)
 
@@ -235,7 +236,7 @@ told_misfits file events entries progress next fault reads told fits =
 
 pub misfits_are_told : MisfitsAreTold
 misfits_are_told file events entries progress next reads = (
-  λ fits. read_fits file (events ++ next ∷ []) (entries ++ option_to_list (given file progress next)) (advance progress next.sign)
+  λ fits. read_fits file (events ++ next ∷ []) (entries ++ option_to_list (entry_given file progress next)) (advance progress next.sign)
       (reads_next file events entries progress next reads fits),
   λ fault told fits. told_misfits file events entries progress next fault reads told fits,
 )

@@ -8,7 +8,8 @@ use Rattle.cdc_model.specs.Records.{Row, LogEntry}
 use Rattle.cdc_model.specs.Sign.{Sign, SignedEvent, row_of}
 use Rattle.cdc_model.specs.Group.{AllSigns, rows_in, Progress, Out}
 use Rattle.cdc_model.specs.Misfit.{misfit}
-use Rattle.cdc_model.proofs.GroupMachine.{advance, made, entry_at, given, Ending, Reached, Misplaced, judged, outcome}
+use Rattle.cdc_model.specs.Advance.{advance, made, entry_at, entry_given}
+use Rattle.cdc_model.proofs.GroupMachine.{Ending, Reached, Misplaced, judged, outcome}
 
 -- ---- one list behind another
 
@@ -36,8 +37,8 @@ pub outcome_append : (file : ℕ) (progress : Progress) (events more : List Sign
     → outcome file progress (events ++ more) ≡ joined file (outcome file progress events) more
 outcome_append file progress [] more = refl
 outcome_append file progress (event ∷ events) more =
-    ap (judged event (misfit progress event.sign) (given file progress event)) (outcome_append file (advance progress event.sign) events more)
-    ∙ judged_joined file event (misfit progress event.sign) (given file progress event) (outcome file (advance progress event.sign) events) more
+    ap (judged event (misfit progress event.sign) (entry_given file progress event)) (outcome_append file (advance progress event.sign) events more)
+    ∙ judged_joined file event (misfit progress event.sign) (entry_given file progress event) (outcome file (advance progress event.sign) events) more
 
 -- ---- events that fit
 
@@ -58,7 +59,7 @@ pub outcome_led : (file : ℕ) (progress next : Progress) (event : SignedEvent) 
     → Leads progress event.seconds event.sign next kind
     → outcome file progress (event ∷ events) ≡ (cons_option (option_map (entry_at file event) kind) (outcome file next events).0, (outcome file next events).1)
 outcome_led file progress next event events kind led =
-    judged_same event (misfit progress event.sign) (given file progress event) (option_map (entry_at file event) kind)
+    judged_same event (misfit progress event.sign) (entry_given file progress event) (option_map (entry_at file event) kind)
     (outcome file (advance progress event.sign) events) (outcome file next events)
     led.fits
     (ap (λ (k : Option EntryKind). option_map (entry_at file event) k) led.gives)

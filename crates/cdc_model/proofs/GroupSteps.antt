@@ -13,7 +13,7 @@ use Rattle.cdc_model.specs.Sign.{Sign, SignedEvent, Gtid, Quiet, Ddl, Marked, Co
 use Rattle.cdc_model.specs.Group.{Says, AllSigns, rows_in, Content, TableRows, OneStatement, IsGroupBody, IsEndedXa, IsBegunLocal, IsStamp, IsNoEntry, IsItem, Progress, Out, Wait, Xa, End, Local, Reaches}
 use Rattle.cdc_model.specs.Misfit.{misfit, misfit_phase, unless_same}
 use Rattle.cdc_model.proofs.SameXid.{no_test, same_xid_is, xid_of}
-use Rattle.cdc_model.proofs.GroupMachine.{advance, made, entry_at, given, with_row}
+use Rattle.cdc_model.specs.Advance.{advance, made, entry_at, entry_given, with_row}
 
 -- ---- one element more
 
@@ -255,7 +255,7 @@ local_goes file rows part event _ begun says h = absurd (let e = h in cc)
 
 -- an event that fits behind an unfinished item goes on with it, or ends it
 pub one_more : (file : ℕ) (progress : Progress) (part : List SignedEvent) (event : SignedEvent) → Reaches part progress → misfit progress event.sign ≡ None
-    → Goes file part event (advance progress event.sign) (given file progress event)
+    → Goes file part event (advance progress event.sign) (entry_given file progress event)
 one_more file Out part event none h =
     subst (λ (list : List SignedEvent). GoesBy file list event Out event.sign) (sym none) (outside_goes file event event.sign refl h)
 one_more file (Wait timestamp) part event stamp h = waiting_goes file timestamp part event event.sign stamp refl h

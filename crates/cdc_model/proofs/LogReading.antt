@@ -21,18 +21,18 @@ use Rattle.cdc_model.proofs.GroupOutcome.{events_have_entries}
 -- ---- the entries of events are what a run gives
 
 -- entries, and a fault or none
-abbrev Listed : Type 0
+abbrev pub Listed : Type 0
 Listed = List LogEntry × Option (Place × NodeFault)
 
-abbrev listed : List LogEntry → Option (Place × NodeFault) → Listed
+abbrev pub listed : List LogEntry → Option (Place × NodeFault) → Listed
 listed entries fault = (entries, fault)
 
 -- what a run comes to, as entries and a fault
-abbrev closed : ℕ → Option (ℕ × FileFault) → List LogEntry × Ending → Listed
+abbrev pub closed : ℕ → Option (ℕ × FileFault) → List LogEntry × Ending → Listed
 closed file ended (entries, Reached progress) = (entries, file_fault file ended)
 closed file ended (entries, Misplaced event fault) = (entries, Some (record { file = file; at = event.at }, Group fault))
 
-run_of_entries : (file : ℕ) (events : List SignedEvent) (ended : Option (ℕ × FileFault)) (entries : List LogEntry) (fault : Option (Place × NodeFault))
+pub run_of_entries : (file : ℕ) (events : List SignedEvent) (ended : Option (ℕ × FileFault)) (entries : List LogEntry) (fault : Option (Place × NodeFault))
     → AreEntriesOfEvents file events ended entries fault → listed entries fault ≡ closed file ended (outcome file Out events)
 run_of_entries file events ended entries fault (inl (progress, reads, is)) =
     ap (listed entries) is
@@ -44,7 +44,7 @@ run_of_entries file events ended entries fault (inr (misplaced, wrong, ceases, i
 
 -- ---- one file
 
-same_entries : (entries others : List LogEntry) (fault other : Option (Place × NodeFault)) → listed entries fault ≡ listed others other → (entries ≡ others) × (fault ≡ other)
+pub same_entries : (entries others : List LogEntry) (fault other : Option (Place × NodeFault)) → listed entries fault ≡ listed others other → (entries ≡ others) × (fault ≡ other)
 same_entries entries others fault other same = (ap (λ (p : Listed). p.0) same, ap (λ (p : Listed). p.1) same)
 
 module _ (one : FilesHaveOneReading) where
@@ -153,7 +153,7 @@ lengthens_nothing entries own new further longer fault last none is all = record
 }
 
 module _ (one : FilesHaveOneReading) where
-  one_list : (file : ℕ) (files : List (List ℕ)) (entries others : List LogEntry) (fault other : Option (Place × NodeFault))
+  pub one_list : (file : ℕ) (files : List (List ℕ)) (entries others : List LogEntry) (fault other : Option (Place × NodeFault))
       → AreEntriesFrom file files entries fault → AreEntriesFrom file files others other → (entries ≡ others) × (fault ≡ other)
   one_list file [] entries others fault other first second = (first.0 ∙ sym second.0, first.1 ∙ sym second.1)
   one_list file (bytes ∷ files) entries others fault other first second =

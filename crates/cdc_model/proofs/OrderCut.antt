@@ -15,18 +15,18 @@ use Rattle.cdc_model.proofs.GlobalOrder.{keys_in, order_is_exact}
 
 -- ---- a list before its first element that passes a test
 
-first_passes : {X : Type 0} (test : X → Bool) (x : X) (xs : List X) → test x ≡ true → before_first test (x ∷ xs) ≡ []
+pub first_passes : {X : Type 0} (test : X → Bool) (x : X) (xs : List X) → test x ≡ true → before_first test (x ∷ xs) ≡ []
 first_passes test x xs is = ap (λ (b : Bool). take (cond (not b) (1 + position_or_len test xs) 0) (x ∷ xs)) is
 
-first_fails : {X : Type 0} (test : X → Bool) (x : X) (xs : List X) → test x ≡ false → before_first test (x ∷ xs) ≡ x ∷ before_first test xs
+pub first_fails : {X : Type 0} (test : X → Bool) (x : X) (xs : List X) → test x ≡ false → before_first test (x ∷ xs) ≡ x ∷ before_first test xs
 first_fails test x xs is =
     ap (λ (b : Bool). take (cond (not b) (1 + position_or_len test xs) 0) (x ∷ xs)) is
     ∙ ap (λ (count : ℕ). take count (x ∷ xs)) (let next : 1 + position_or_len test xs ≡ suc (position_or_len test xs) = omega arith in next)
 
-found_at : {X : Type 0} (test : X → Bool) (x : X) (xs : List X) → test x ≡ true → find test (x ∷ xs) ≡ Some x
+pub found_at : {X : Type 0} (test : X → Bool) (x : X) (xs : List X) → test x ≡ true → find test (x ∷ xs) ≡ Some x
 found_at test x xs is = ap (λ (b : Bool). cond b (Some x) (find test xs)) is
 
-found_later : {X : Type 0} (test : X → Bool) (x : X) (xs : List X) → test x ≡ false → find test (x ∷ xs) ≡ find test xs
+pub found_later : {X : Type 0} (test : X → Bool) (x : X) (xs : List X) → test x ≡ false → find test (x ∷ xs) ≡ find test xs
 found_later test x xs is = ap (λ (b : Bool). cond b (Some x) (find test xs)) is
 
 -- ---- what the first transactions keep

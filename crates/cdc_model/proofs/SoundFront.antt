@@ -6,12 +6,12 @@ use Rattle.cdc_model.specs.Records.{LogEntry, Start}
 use Rattle.cdc_model.specs.Start.{next, left_by}
 use Rattle.cdc_model.specs.Soundness.{entry_fault, sound_entries, EndsAt, IsLongestSoundFront, SoundIsLongest}
 
-left_append : (start : Start) (later earlier : List LogEntry) → left_by start (later ++ earlier) ≡ left_by (left_by start earlier) later
+pub left_append : (start : Start) (later earlier : List LogEntry) → left_by start (later ++ earlier) ≡ left_by (left_by start earlier) later
 left_append start [] earlier = refl
 left_append start (entry ∷ later) earlier = ap (next entry.kind) (left_append start later earlier)
 
 -- what a list of entries leaves is what the others leave behind its first
-left_behind : (start : Start) (entry : LogEntry) (later : List LogEntry)
+pub left_behind : (start : Start) (entry : LogEntry) (later : List LogEntry)
     → left_by (next entry.kind start) (reverse later) ≡ left_by start (reverse (entry ∷ later))
 left_behind start entry later =
     sym (left_append start (reverse later) (entry ∷ [])) ∙ ap (left_by start) (sym (reverse_onto later entry []))

@@ -26,11 +26,11 @@ use Rattle.cdc_model.specs.Output.{post_headers, file_head, file_name, rotate_ev
 
 -- ---- notation
 
-abbrev id : ℕ → Xid
+abbrev pub id : ℕ → Xid
 id number = record { gtrid = 103 ∷ (48 + number) ∷ []; bqual = []; format = 1 }
 
 -- an entry at a byte of file 1
-abbrev at : ℕ → EntryKind → LogEntry
+abbrev pub at : ℕ → EntryKind → LogEntry
 at byte kind = record {
   kind = kind;
   at = record { file = 1; at = byte };
@@ -39,27 +39,27 @@ at byte kind = record {
 }
 
 -- entries whose places don't matter
-abbrev log : List EntryKind → NodeLog
+abbrev pub log : List EntryKind → NodeLog
 log kinds = record { start = beginning; entries = map (at 0) kinds }
 
-abbrev prepare : ℕ → EntryKind
+abbrev pub prepare : ℕ → EntryKind
 prepare number = Prepare (id number) []
 
-abbrev commit : ℕ → ℕ → EntryKind
+abbrev pub commit : ℕ → ℕ → EntryKind
 commit number timestamp = Commit (id number) timestamp 5
 
 -- a table map of d1.t1 and a row event
-abbrev rows : List Row
+abbrev pub rows : List Row
 rows = (19, TableMap 1 1 (codes "d1") (codes "t1") (1 ∷ 3 ∷ 0 ∷ 1 ∷ [])) ∷ (30, Rows (1 ∷ 0 ∷ 0 ∷ 0 ∷ 0 ∷ 0 ∷ 1 ∷ 0 ∷ 2 ∷ 0 ∷ 1 ∷ 255 ∷ 0 ∷ 1 ∷ 0 ∷ 0 ∷ 0 ∷ [])) ∷ []
 
-abbrev prepare_rows : ℕ → EntryKind
+abbrev pub prepare_rows : ℕ → EntryKind
 prepare_rows number = Prepare (id number) rows
 
 abbrev statement : List ℕ → List Row
 statement text = (29, RowsQuery 5 text) ∷ []
 
 -- the keys and branches of transactions
-abbrev keys : List Transaction → List Key
+abbrev pub keys : List Transaction → List Key
 keys txns = map (λ txn. txn.key) txns
 
 -- ---- logs and what they come to
@@ -75,7 +75,7 @@ unfolding low_first header_bytes body_bytes encode_with digits mark_text stateme
 two_nodes = refl
 
 -- two branches that overlap, and a beat
-abbrev overlapping : List EntryKind
+abbrev pub overlapping : List EntryKind
 overlapping = prepare 1 ∷ prepare 2 ∷ commit 2 20 ∷ commit 1 10 ∷ Beat 30 ∷ []
 
 -- a node's low-water mark behind its first entries
@@ -224,10 +224,10 @@ unfolding low_first header_bytes body_bytes encode_with digits mark_text stateme
 keys_at = refl
 
 -- three pairs, with a rotation size of 256
-abbrev three : List EntryKind
+abbrev pub three : List EntryKind
 three = prepare 1 ∷ commit 1 10 ∷ prepare 2 ∷ commit 2 20 ∷ prepare 3 ∷ commit 3 30 ∷ []
 
-abbrev transactions : List EntryKind → List Transaction
+abbrev pub transactions : List EntryKind → List Transaction
 transactions kinds = settled_transactions [] 0 first_key (log kinds ∷ [])
 
 -- a file is closed once it has the rotation size
@@ -283,7 +283,7 @@ unfolding low_first header_bytes body_bytes encode_with digits mark_text stateme
 mixed_marks = refl
 
 -- d1.t1 becomes shop.orders
-abbrev to_orders : List Rename
+abbrev pub to_orders : List Rename
 to_orders = record { db = codes "d1"; table = codes "t2"; to_db = codes "x"; to_table = codes "y" } ∷ record { db = codes "d1"; table = codes "t1"; to_db = codes "shop"; to_table = codes "orders" } ∷ []
 
 -- the renamed body, byte by byte

@@ -41,6 +41,7 @@ begun_branches start node (entry ∷ earlier) = begun_branches start node earlie
 abbrev pub is_new : Key → Start → Begun → Bool
 is_new last start b = nat_le start.entry b.0 && is_gt (key_order b.1.key last)
 
+-- the branches that are new behind a starting point, above a last key
 abbrev pub new_branches : Key → Start → List Begun → List CommittedBranch
 new_branches last start branches = map (λ b. b.1) (filter (is_new last start) branches)
 

@@ -24,6 +24,7 @@ pub data Content : Type 0 where
   TableRows : List Row → Content
   OneStatement : Row → Content
 
+-- a content's rows: a statement is one row
 abbrev pub rows_of : Content → List Row
 rows_of (TableRows rows) = rows
 rows_of (OneStatement row) = row ∷ []
@@ -108,6 +109,7 @@ pub record Fits (file : ℕ) (events : List SignedEvent) : Type 0 where
 
 -- ---- how far an unfinished item has come
 
+-- how far an unfinished item has come
 pub data Progress : Type 0 where
   -- no item has begun
   Out : Progress

@@ -29,39 +29,50 @@ abbrev pub IsKeptKey : Key → Type 0
 IsKeptKey (Shared timestamp gtrid) = timestamp < 2 ^ 63
 IsKeptKey (PlainKey timestamp node entry) = (timestamp < 2 ^ 63) × (1 ≤ node) × (node ≤ 256)
 
+-- an entry as a record
 abbrev pub entry_seen : InsideEntry → LogEntry
 entry_seen e = record { kind = e.kind; at = e.at; end = e.end; checksum = e.checksum }
 
+-- what is true of each entry
 pub record IsKeptEntry (e : InsideEntry) : Type 0 where
   pub kind : IsKeptKind e.kind
   pub setting : e.checksum ≤ 1
 
+-- a committed branch as a record
 abbrev pub branch_seen : InsideBranch → CommittedBranch
 branch_seen b = record { key = b.key; entry = b.entry; seconds = b.seconds; rows = b.rows }
 
+-- what is true of each committed branch
 pub record IsKeptBranch (b : InsideBranch) : Type 0 where
   pub key : IsKeptKey b.key
   pub rows : AllByRecursion IsRow b.rows
 
+-- a transaction as a record
 abbrev pub transaction_seen : InsideTransaction → Transaction
 transaction_seen t = record { number = t.number; key = t.key; seconds = t.seconds; branches = t.branches }
 
+-- what is true of each transaction
 abbrev pub IsKeptTransaction : InsideTransaction → Type 0
 IsKeptTransaction t = IsKeptKey t.key
 
+-- an open branch as a record
 abbrev pub opened_seen : InsideOpened → OpenBranch
 opened_seen o = record { xid = o.xid; floor = o.floor; entry = o.entry; rows = o.rows }
 
+-- what is true of each open branch
 pub record IsKeptOpened (o : InsideOpened) : Type 0 where
   pub floor : o.floor < 2 ^ 63
   pub rows : AllByRecursion IsRow o.rows
 
+-- a starting point as a record
 abbrev pub start_seen : InsideStart → Start
 start_seen s = record { entry = s.entry; mark = s.mark; opened = s.opened }
 
+-- what is true of each starting point
 abbrev pub IsKeptStart : InsideStart → Type 0
 IsKeptStart s = s.mark < 2 ^ 63
 
+-- a unit as a record
 abbrev pub unit_seen : InsideUnit → OutputUnit
 unit_seen u = record { number = u.number; key = u.key; before = u.before; after = u.after; bytes = u.bytes }
 

@@ -32,6 +32,7 @@ misfit_statement (TableRows []) = None
 misfit_statement (TableRows (row ∷ rows)) = Some BadDdl
 misfit_statement (OneStatement row) = Some BadDdl
 
+-- a row may not stand beside a statement
 abbrev pub misfit_row : Content → Option GroupFault
 misfit_row (TableRows rows) = None
 misfit_row (OneStatement row) = Some BadDdl

@@ -33,6 +33,7 @@ pub record Output : Type 0 where
   pub closed : List (List ℕ)
   pub current : List ℕ
 
+-- nothing was written yet
 abbrev pub no_output : Output
 no_output = record { closed = []; current = [] }
 
@@ -64,6 +65,7 @@ abbrev pub open_file : List ℕ → List (List ℕ)
 open_file [] = []
 open_file (byte ∷ bytes) = (byte ∷ bytes) ∷ []
 
+-- an output's files: the closed ones, and the open one where there is one
 abbrev pub files_in : Output → List (List ℕ)
 files_in output = output.closed ++ open_file output.current
 
@@ -77,13 +79,16 @@ last_closed number [] = record { file = 0; length = 0; closed = false }
 last_closed number (file ∷ []) = record { file = number; length = length file; closed = true }
 last_closed number (file ∷ other ∷ files) = last_closed (number + 1) (other ∷ files)
 
+-- where an output of closed files and an open one stands
 abbrev pub layout_with : List (List ℕ) → List ℕ → Layout
 layout_with closed [] = last_closed 1 closed
 layout_with closed (byte ∷ bytes) = record { file = length closed + 1; length = length (byte ∷ bytes); closed = false }
 
+-- where an output stands
 abbrev pub layout_in : Output → Layout
 layout_in output = layout_with output.closed output.current
 
+-- where the output of these transactions stands
 abbrev pub layout_of : List Rename → ℕ → List Transaction → Layout
 layout_of rules rotation txns = layout_in (output_after rules rotation no_output txns)
 
@@ -131,6 +136,7 @@ pub record AreFilesOf (rules : List Rename) (rotation : ℕ) (txns : List Transa
   pub in_order : flat_map (λ (list : List Transaction). list) lists ≡ txns
   pub each : AreOutputFiles rules rotation 1 lists files
 
+-- law: the output files have the transactions, in order, each whole
 abbrev pub FilesAreWhole : Type 0
 FilesAreWhole = (rules : List Rename) (rotation : ℕ) (txns : List Transaction)
     → AreFilesOf rules rotation txns (files_of rules rotation txns)
@@ -174,5 +180,6 @@ abbrev pub some_or : Option Transaction → Option Transaction → Option Transa
 some_or (Some txn) other = Some txn
 some_or None other = other
 
+-- the transaction that ends the one file: the first that would pass its last place, or the oversized one
 abbrev pub beyond_the_file : List NodeLog → Option Transaction
 beyond_the_file logs = some_or (first_beyond (length file_head) (settled_transactions [] 0 first_key logs)) (oversized_transaction [] 0 first_key logs)

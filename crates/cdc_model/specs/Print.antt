@@ -56,6 +56,7 @@ branch_statement [] = None
 branch_statement (row ∷ []) = if row.0 == 29 then row_statement row.1 else None
 branch_statement (row ∷ other ∷ rows) = None
 
+-- two statements have the same database and text
 abbrev pub same_statement : Statement → Statement → Bool
 same_statement a b = pointwise nat_eq a.0 b.0 && pointwise nat_eq a.1 b.1
 
@@ -66,15 +67,19 @@ distinct (statement ∷ rest) = statement ∷ filter (λ other. not (same_statem
 
 -- ---- the events of a transaction, each a type and a body
 
+-- the BEGIN of a print
 abbrev pub begin_event : Row
 begin_event = (2, Query 0 0 0 [] [] (codes "BEGIN"))
 
+-- the mark of a key
 abbrev pub mark_event : Key → Row
 mark_event key = (29, RowsQuery (length (mark_text key)) (mark_text key))
 
+-- the end of a print, under its number
 abbrev pub xid_event : ℕ → Row
 xid_event number = (16, Xid number)
 
+-- a statement of the whole database, as a query
 abbrev pub statement_event : Statement → Row
 statement_event statement = (2, Query 0 0 0 [] statement.0 statement.1)
 
@@ -86,6 +91,7 @@ row_events rules branches = flat_map (λ branch. map (λ row. (row.0, renamed ru
 abbrev pub statements_of : List CommittedBranch → List Statement
 statements_of branches = filter_map (λ branch. branch_statement branch.rows) branches
 
+-- the branches that carry no statement
 abbrev pub without_statement : List CommittedBranch → List CommittedBranch
 without_statement branches = filter (λ branch. is_none (branch_statement branch.rows)) branches
 
@@ -107,6 +113,7 @@ events_of rules number key branches [] = rows_print rules number key branches
 events_of rules number key branches (statement ∷ statements) =
     mark_event key ∷ map statement_event (distinct (statement ∷ statements)) ++ rows_behind rules number (without_statement branches)
 
+-- a transaction's events, as they are printed
 abbrev pub printed_events : List Rename → Transaction → List Row
 printed_events rules txn = events_of rules txn.number txn.key txn.branches (statements_of txn.branches)
 

@@ -49,16 +49,20 @@ pub record SpellsRow (kind : ℕ) (bytes : List ℕ) (body : Body) : Type 0 wher
 abbrev pub seen_row : ℕ → List ℕ → Row
 seen_row kind bytes = (kind, run_body kind bytes)
 
--- ---- the first row of a run: its type, the length of its body, the body's bytes, and the rest
+-- ---- the first row of a run
 
+-- its type
 abbrev pub first_kind : List ℕ → ℕ
 first_kind bytes = slice_index bytes 0
 
+-- how many bytes its body has
 abbrev pub first_length : List ℕ → ℕ
 first_length bytes = number_of (take 4 (drop 1 bytes))
 
+-- its body
 abbrev pub first_own : List ℕ → List ℕ
 first_own bytes = take (first_length bytes) (drop 5 bytes)
 
+-- the rows behind it
 abbrev pub first_behind : List ℕ → List ℕ
 first_behind bytes = drop (first_length bytes) (drop 5 bytes)

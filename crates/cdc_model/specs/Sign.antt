@@ -13,6 +13,7 @@ use Rattle.cdc_query.specs.Words.{verb_of}
 use Rattle.cdc_model.specs.Records.{Row}
 use Rattle.cdc_model.specs.Print.{Statement, statement_in}
 
+-- what an event says in a log
 pub data Sign : Type 0 where
   -- a transaction's id in its own event, named or not
   Gtid : Sign
@@ -60,6 +61,7 @@ is_other (XaRollback xid) = false
 is_other XaOther = false
 is_other Other = true
 
+-- a marked text spells a statement whose own text is no verb of a transaction
 abbrev pub is_ddl : Option Statement → Bool
 is_ddl None = false
 is_ddl (Some statement) = is_other (verb_of statement.1)
@@ -71,6 +73,7 @@ sign_of_rows_query kind size text =
     then (if is_ddl (statement_in text) then Ddl (kind, RowsQuery size text) else Marked)
     else Quiet
 
+-- the sign of a statement's text, by its verb
 abbrev pub sign_of_verb : Verb → Sign
 sign_of_verb Begin = BeginText
 sign_of_verb Commit = CommitText
@@ -94,6 +97,7 @@ sign_of_time class value =
 abbrev pub sign_of_skipped : ℕ → Sign
 sign_of_skipped kind = if kind == 18 then Foreign else if (kind == 33) || (kind == 34) then Gtid else Quiet
 
+-- the sign of a body under its type
 abbrev pub sign_of_body : ℕ → Body → Sign
 sign_of_body kind (Format text created lengths checksum tail) = Quiet
 sign_of_body kind (Query thread seconds error status db text) = sign_of_verb (verb_of text)
@@ -118,6 +122,7 @@ pub record SignedEvent : Type 0 where
   pub seconds : ℕ
   pub sign : Sign
 
+-- an event of a file with its sign
 abbrev pub signed : PlacedEvent → SignedEvent
 signed placed = record { at = placed.at; end = placed.end; checksum = placed.checksum; seconds = placed.event.header.seconds; sign = sign_of placed.event }
 
@@ -131,6 +136,7 @@ is_quiet (Ddl row) = true
 is_quiet Marked = true
 is_quiet _ = false
 
+-- a transaction's id
 abbrev pub is_gtid : Sign → Bool
 is_gtid Gtid = true
 is_gtid _ = false

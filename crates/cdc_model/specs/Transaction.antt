@@ -19,6 +19,7 @@ use Rattle.cdc_model.specs.Print.{printed_length}
 abbrev pub node_branches : Key → ℕ × NodeLog → List CommittedBranch
 node_branches last node = committed_branches last node.1.start node.0 (sound_history node.1)
 
+-- the committed branches of all nodes above a last key, node 1 first
 abbrev pub all_branches : Key → List NodeLog → List CommittedBranch
 all_branches last logs = flat_map (node_branches last) (enumerate_from 1 logs)
 
@@ -36,6 +37,7 @@ placed_key Less key first rest later = key ∷ first ∷ rest
 placed_key Equal key first rest later = first ∷ rest
 placed_key Greater key first rest later = first ∷ later
 
+-- a key at its place among keys in order, unless it is there
 abbrev pub put : Key → List Key → List Key
 put key [] = key ∷ []
 put key (first ∷ rest) = placed_key (key_order key first) key first rest (put key rest)
@@ -44,6 +46,7 @@ put key (first ∷ rest) = placed_key (key_order key first) key first rest (put 
 abbrev pub add_settled : ℕ → List Key → CommittedBranch → List Key
 add_settled mark keys branch = if is_settled mark branch.key then put branch.key keys else keys
 
+-- the settled keys of branches, in order, each once
 abbrev pub settled_keys : ℕ → List CommittedBranch → List Key
 settled_keys mark branches = fold (add_settled mark) [] branches
 
@@ -51,6 +54,7 @@ settled_keys mark branches = fold (add_settled mark) [] branches
 abbrev pub has_key : Key → CommittedBranch → Bool
 has_key key branch = is_eq (key_order key branch.key)
 
+-- the first branch's seconds
 abbrev pub first_seconds : List CommittedBranch → ℕ
 first_seconds [] = 0
 first_seconds (branch ∷ branches) = branch.seconds
@@ -90,6 +94,7 @@ abbrev pub key_or_first : Option Transaction → Key
 key_or_first None = first_key
 key_or_first (Some txn) = txn.key
 
+-- the key of the n-th transaction, and the key before all others for 0
 abbrev pub key_at : List Transaction → ℕ → Key
 key_at txns zero = first_key
 key_at txns (suc before) = key_or_first (slice_get txns before)
@@ -135,6 +140,7 @@ pub record OversizedEnds (rules : List Rename) (settled : List Transaction) (ove
   pub fits : (txn : Transaction) → Contains settled txn → printed_length rules txn ≤ 2 ^ 28
   pub above : (txn : Transaction) → oversized ≡ Some txn → 2 ^ 28 < printed_length rules txn
 
+-- law: what is settled fits, and what ends it does not
 abbrev pub SettledFit : Type 0
 SettledFit = (rules : List Rename) (count : ℕ) (last : Key) (logs : List NodeLog)
     → OversizedEnds rules (settled_transactions rules count last logs) (oversized_transaction rules count last logs)

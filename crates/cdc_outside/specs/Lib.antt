@@ -1,3 +1,6 @@
 pub mod Count
+pub mod Disk
+pub mod Door
+pub mod Link
 pub mod Sink
 pub mod Source

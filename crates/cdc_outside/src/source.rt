@@ -3,7 +3,7 @@
 ghost use Rattle.std.specs.Prelude.{◌≡◌, ℕ, ◌≤◌, ◌^◌, Bool, IsTrue, List, Option, length, map, sum, IfOk};
 ghost use Rattle.cdc_base.specs.declared.place.Place.{Place};
 ghost use Rattle.cdc_outside.specs.Count.{RisesOnErr};
-ghost use Rattle.cdc_outside.specs.Source.{earlier_place, file_of, lowered, size_of, ReadsFile};
+ghost use Rattle.cdc_outside.specs.Source.{behind, earlier_place, file_of, later_place, lowered, raised, size_of, ReadsFile};
 
 use crate::failed::Failed;
 use cdc_base::Place;
@@ -25,6 +25,9 @@ pub trait Source: Drop {
     /// The least place that `read_at` was asked for.
     ghost lowest: { Self → Option Place };
 
+    /// The greatest place behind bytes that `read_at` was asked for.
+    ghost highest: { Self → Option Place };
+
     /// How often it has failed, a count that stands still at `u64`'s end.
     ghost faults: { Self → ℕ };
 
@@ -34,6 +37,7 @@ pub trait Source: Drop {
         ensures held { held self.new ≡ held self.old }
         ensures sizes { sizes self.new ≡ sizes self.old }
         ensures lowest { lowest self.new ≡ lowest self.old }
+        ensures highest { highest self.new ≡ highest self.old }
         ensures faults { RisesOnErr (faults self.old) (faults self.new) result };
 
     /// How many bytes a file has.
@@ -45,6 +49,7 @@ pub trait Source: Drop {
         ensures held { held self.new ≡ held self.old }
         ensures sizes { sizes self.new ≡ sizes self.old }
         ensures lowest { lowest self.new ≡ lowest self.old }
+        ensures highest { highest self.new ≡ highest self.old }
         ensures faults { RisesOnErr (faults self.old) (faults self.new) result };
 
     /// Puts bytes of a file, from its byte `at` on, at the front of `into`, and answers how many. It answers
@@ -59,6 +64,7 @@ pub trait Source: Drop {
         ensures sizes { sizes self.new ≡ sizes self.old }
         // Also where it failed.
         ensures lowest { lowest self.new ≡ lowered (lowest self.old) file at }
+        ensures highest { highest self.new ≡ raised (highest self.old) file (behind at (length into.old)) }
         ensures faults { RisesOnErr (faults self.old) (faults self.new) result };
 
     ghost limit: { (source : Self) → sum (sizes source) ≤ 2 ^ 54 };
@@ -82,6 +88,31 @@ fn earlier(place: Place, other: Place) -> Place
     ensures { result ≡ earlier_place place other }
 {
     if place.file < other.file || (place.file == other.file && place.at < other.at) {
+        place
+    } else {
+        other
+    }
+}
+
+/// The greatest place asked for, with that behind `count` bytes more: what a source keeps for `highest`.
+pub fn highest_place(highest: Option<Place>, file: u32, at: u64, count: usize) -> Option<Place>
+    ensures { result ≡ raised highest file (behind at count) }
+{
+    let place = Place {
+        file,
+        at: at.saturating_add(count as u64),
+    };
+    match highest {
+        Some(highest) => Some(later(place, highest)),
+        None => Some(place),
+    }
+}
+
+/// The later of two places; the second one where they are equal.
+fn later(place: Place, other: Place) -> Place
+    ensures { result ≡ later_place place other }
+{
+    if other.file < place.file || (place.file == other.file && other.at < place.at) {
         place
     } else {
         other

@@ -1,8 +1,8 @@
 //! Reads one file of a source whole.
 
-ghost use Rattle.std.specs.Prelude.{◌≡◌, [], ◌+◌, ◌≤◌, ◌<◌, ◌⊎◌, ◌++◌, IsTrue, length, take, drop, IfOk, OnErr, OnOk, IsErrOf};
-ghost use Rattle.cdc_outside.specs.Count.{Rose, RisesOnErr};
-ghost use Rattle.cdc_outside.specs.Source.{file_of, size_of, lowered, LoweredTo};
+ghost use Rattle.std.specs.Prelude.{◌≡◌, [], ◌+◌, ◌≤◌, ◌<◌, ◌⊎◌, IsTrue, length, min, take, IfOk, OnOk, IsErrOf};
+ghost use Rattle.cdc_outside.specs.Count.{Rose};
+ghost use Rattle.cdc_outside.specs.Source.{behind, file_of, size_of, lowered, raised, LoweredTo, NothingPast};
 ghost use Rattle.cdc_outside.specs.declared.whole.ReadWholeError.TheVariants.{Failed as SourceFailed, Memory as NoMemory};
 
 use crate::failed::Failed;
@@ -66,6 +66,7 @@ fn read_piece<S: Source>(
     ensures held { S.held source.new ≡ S.held source.old }
     ensures sizes { S.sizes source.new ≡ S.sizes source.old }
     ensures lowest { S.lowest source.new ≡ lowered (S.lowest source.old) file at }
+    ensures highest { S.highest source.new ≡ raised (S.highest source.old) file (behind at (min left (length piece.old))) }
 {
     let asked = left.min(piece.len() as u64) as usize;
     let read = source.read_at(file, at, &mut piece[..asked])?;
@@ -95,6 +96,7 @@ fn read_told<S: Source>(
     ensures held { S.held source.new ≡ S.held source.old }
     ensures sizes { S.sizes source.new ≡ S.sizes source.old }
     ensures lowest { LoweredTo (S.lowest source.old) file 0 (S.lowest source.new) }
+    ensures past { NothingPast file told (S.highest source.old) (S.highest source.new) }
 {
     let mut at = 0u64;
     while at < told {
@@ -107,11 +109,19 @@ fn read_told<S: Source>(
     Ok(())
 }
 
+/// Room for the pieces of a file of so many bytes. It doesn't stand on the stack, which may be small.
+fn piece_for(alloc: Global, told: u64) -> Result<Vec<u8>, Memory>
+    ensures { IfOk result (λ piece. 0 < length piece.items) }
+{
+    let room = told.clamp(1, PIECE as u64) as usize;
+    Ok(vec![in alloc; 0; room]?)
+}
+
 /// The bytes of one file (counted from 1) of a source.
 ///
 /// It asks for the file's length once, and for no byte at or past it, also where the file has grown since. A
 /// file that ends sooner gives the bytes that it has. No more memory is taken than about twice what was read,
-/// and 1 MiB. On `Failed` and `Memory` the source may have been read in part.
+/// 1 MiB, and one piece of 64 KiB. On `Failed` and `Memory` the source may have been read in part.
 pub fn read_whole<S: Source>(
     alloc: Global,
     source: &mut S,
@@ -130,10 +140,12 @@ pub fn read_whole<S: Source>(
     ensures held { S.held source.new ≡ S.held source.old }
     ensures sizes { S.sizes source.new ≡ S.sizes source.old }
     ensures lowest { LoweredTo (S.lowest source.old) file 0 (S.lowest source.new) }
+    // No byte at or past the size is asked for.
+    ensures past { NothingPast file (size_of (S.sizes source.old) file) (S.highest source.old) (S.highest source.new) }
 {
     let told = source.length(file)?;
     let mut bytes = Buffer::with_room(alloc, told.min(FIRST_ROOM) as usize)?;
-    let mut piece = [0u8; PIECE];
-    read_told(source, file, told, &mut piece, &mut bytes)?;
+    let mut piece = piece_for(alloc, told)?;
+    read_told(source, file, told, piece.as_mut_slice(), &mut bytes)?;
     Ok(bytes.freeze()?)
 }

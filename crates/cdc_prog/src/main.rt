@@ -5,6 +5,8 @@
 #![tactic(auto)]
 
 ghost use Rattle.std.specs.Prelude.{◌≡◌, IfOk, IfErr};
+ghost use Rattle.cdc_top.specs.Answers.{status_of};
+ghost use Rattle.cdc_top.specs.declared.answer.Answer.TheVariants.{Memory as NoMemory};
 
 mod nodes;
 mod words;
@@ -14,15 +16,12 @@ use crate::words::words_of;
 use cdc_base::Memory;
 use cdc_files::{StdSink, StdStream};
 use cdc_outside::Sink;
-use cdc_top::top;
+use cdc_top::{answer_without_memory, top};
 use std::alloc::Global;
 use std::fs::Files;
 use std::io::Write;
 use std::process::ExitCode;
 use std::rt::Env;
-
-/// The status where there was no memory.
-const NO_MEMORY: u8 = 8;
 
 /// Answers the words of the command line.
 fn answer<R: AllocGlobal + Env + Files, W: Write + Drop>(
@@ -35,17 +34,14 @@ fn answer<R: AllocGlobal + Env + Files, W: Write + Drop>(
     Ok(top(rt.alloc(), words.as_slice(), &mut nodes, out, err))
 }
 
-/// The status, where there was memory for one; else a line is written.
-fn status_of<K: Sink>(answer: Result<u8, Memory>, err: &mut K) -> u8
+/// The status of an answer; where there was no memory for one, that of no memory, with its line.
+fn status_for<K: Sink>(answer: Result<u8, Memory>, err: &mut K) -> u8
     ensures answered { IfOk answer (λ status. result ≡ status) }
-    ensures memory { IfErr answer (λ _. result ≡ 8) }
+    ensures memory { IfErr answer (λ _. result ≡ status_of NoMemory) }
 {
     match answer {
         Ok(status) => status,
-        Err(Memory) => {
-            let _written = err.write(b"cdc: memory\n");
-            NO_MEMORY
-        }
+        Err(Memory) => answer_without_memory(err),
     }
 }
 
@@ -53,5 +49,5 @@ fn main(rt: HostRuntime) -> ExitCode {
     let mut out = StdSink::new(StdStream::Out(rt.stdout()));
     let mut err = StdSink::new(StdStream::Err(rt.stderr()));
     let answer = answer(&rt, &mut out, &mut err);
-    ExitCode::from(status_of(answer, &mut err))
+    ExitCode::from(status_for(answer, &mut err))
 }

@@ -1,15 +1,13 @@
 -- From an answer to the promises of its status.
-use Rattle.std.proofs.Common.{◌≡◌, ℕ, zero, suc, get_or, ◌+◌, ◌-◌, ◌≤◌, ◌<◌, ◌⊎◌, Bool, true, false, IsTrue, List, [], ◌∷◌, length, inl, inr, arith, refl, sym, ap, ◌∙◌, subst, ⊎_elim}
-use Rattle.std.proofs.lemmas.Bool.{cases_lt}
-use Rattle.cdc_outside.specs.Count.{Rose}
+use Rattle.std.proofs.Common.{◌≡◌, ℕ, zero, suc, get_or, ◌-◌, ◌<◌, Bool, true, false, List, [], ◌∷◌, length, inl, inr, arith, refl, sym, ◌∙◌, ⊎_elim}
 use Rattle.cdc_model.specs.declared.node_log.NodeLog.{NodeLog}
 use Rattle.cdc_top.specs.declared.answer.Answer.{Answer}
 use Rattle.cdc_top.specs.declared.answer.Answer.TheVariants.{Done, Usage, NotYet, Read, Memory, Sink}
 use Rattle.cdc_top.specs.Answers.{status_of}
 use Rattle.cdc_top.specs.Thin.{IsThinLog, AreThinLogs}
-use Rattle.cdc_top.specs.Logs.{log_files_of, IsLeastNotThin, RoseAt}
+use Rattle.cdc_top.specs.Logs.{IsLeastNotThin}
 use Rattle.cdc_top.specs.Words.{is_print}
-use Rattle.cdc_top.specs.Call.{PrintCall, IsInForm, WroteAll, WroteFront, WroteNothing, IsAnswerOf, NoneFailed, IsAnswered}
+use Rattle.cdc_top.specs.Call.{PrintCall, IsInForm, IsAnswerOf, IsAnswered}
 
 -- words can't be a command and none
 no_both : (words : List (List ℕ)) → is_print words ≡ true → is_print words ≡ false → ⊥

@@ -1,16 +1,14 @@
 -- Reading one node more: what stays of the other nodes, and what is known of all.
-use Rattle.std.proofs.Common.{◌≡◌, ℕ, ◌+◌, ◌-◌, ◌<◌, ◌≤◌, ◌⊎◌, inl, inr, Bool, IsTrue, List, [], ◌∷◌, ◌++◌, length, map, take, get_or, Option, Some, None, min, arith, refl, sym, ap, ◌∙◌, subst, ⊎_elim}
-use Rattle.std.specs.List.{AllZip}
+use Rattle.std.proofs.Common.{◌≡◌, ℕ, ◌+◌, ◌-◌, ◌<◌, ◌≤◌, inl, inr, Bool, List, [], ◌∷◌, ◌++◌, length, map, take, get_or, Option, Some, None, arith, sym, ap, ◌∙◌, subst, ⊎_elim}
 use Rattle.std.proofs.Math.ListN.{set}
 use Rattle.std.proofs.Math.Seq.{map-set_same}
-use Rattle.std.proofs.lemmas.Bool.{cases_eq, cases_lt}
+use Rattle.std.proofs.lemmas.Bool.{cases_eq}
 use Rattle.std.proofs.lemmas.List.{map-set, get_or-map, get_or-set_same, get_or-set_other, take_more, length-map}
-use Rattle.cdc_outside.specs.Count.{Rose}
 use Rattle.cdc_model.specs.declared.node_log.NodeLog.{NodeLog}
 use Rattle.cdc_top.specs.declared.logs.LogsError.{LogsError}
 use Rattle.cdc_top.specs.declared.logs.LogsError.TheVariants.{Read, Memory, NotYet}
-use Rattle.cdc_top.specs.Thin.{IsThinLog, IsNotThin, AreThinLogs}
-use Rattle.cdc_top.specs.Logs.{log_files_of, IsThinAt, IsLeastNotThin, or_node, IsReadStep, HasStepCause, RoseAt, NoneFell, HasCause, IsReadTo}
+use Rattle.cdc_top.specs.Thin.{IsThinLog, AreThinLogs}
+use Rattle.cdc_top.specs.Logs.{IsThinAt, IsReadStep, HasStepCause, RoseAt, NoneFell, HasCause, IsReadTo}
 
 -- a node that was read holds what it held
 pub held_kept : {S : Type 0} (held : S → List (List ℕ)) (items : List S) (place : ℕ) (old new : S) → old ≡ get_or items place old → held new ≡ held old

@@ -1,11 +1,11 @@
 -- The one file of transactions whose prints are short: none is cut off.
-use Rattle.std.proofs.Common.{◌≡◌, ℕ, ◌+◌, ◌*◌, ◌^◌, ◌<◌, ◌≤◌, Bool, true, false, not, cond, ltb, leb, List, [], ◌∷◌, ◌++◌, length, take, refl, sym, ap, ◌∙◌, arith, suc}
+use Rattle.std.proofs.Common.{◌≡◌, ℕ, ◌+◌, ◌*◌, ◌^◌, ◌≤◌, Bool, true, false, cond, leb, List, [], ◌∷◌, ◌++◌, length, refl, ap, ◌∙◌, arith, suc}
 use Rattle.std.specs.List.{AllByRecursion, before_first, position_or_len}
 use Rattle.std.proofs.lemmas.Bool.{le-leb, le-ltb}
 use Rattle.cdc_model.specs.Records.{Transaction}
 use Rattle.cdc_model.specs.Print.{printed_bytes, printed_length}
 use Rattle.cdc_base.specs.Key.{first_key}
-use Rattle.cdc_model.specs.Transaction.{is_oversized, settled_transactions, ordered_transactions}
+use Rattle.cdc_model.specs.Transaction.{is_oversized, ordered_transactions}
 use Rattle.cdc_model.specs.Output.{file_head, prints_at, prints_within, last_place, one_file, unrotated_file}
 use Rattle.cdc_model.specs.declared.node_log.NodeLog.{NodeLog}
 use Rattle.cdc_top.specs.Small.{IsShortPrint, shown_file}

@@ -1,5 +1,5 @@
 -- Logs that were read in the thin form are small, and so are their transactions.
-use Rattle.std.proofs.Common.{◌≡◌, ℕ, ◌+◌, ◌*◌, ◌≤◌, ◌<◌, ◌^◌, List, [], ◌∷◌, ◌++◌, length, map, refl, sym, ap, ◌∙◌, subst, ⊎_elim, arith, inl, inr}
+use Rattle.std.proofs.Common.{◌≡◌, ℕ, ◌+◌, ◌*◌, ◌≤◌, List, [], ◌∷◌, length, refl, sym, subst, ⊎_elim, arith}
 use Rattle.std.specs.List.{AllByRecursion, flat_map}
 use Rattle.cdc_base.specs.declared.xid.Xid.{Xid}
 use Rattle.cdc_base.specs.declared.rename.Rename.{Rename}
@@ -14,7 +14,7 @@ use Rattle.cdc_model.specs.Transaction.{ordered_transactions, entries_in}
 use Rattle.cdc_model.specs.Soundness.{IsCounted}
 use Rattle.cdc_model.specs.Output.{file_head, last_place, unrotated_file}
 use Rattle.cdc_writer.specs.Short.{HasNoRows, HasShortId}
-use Rattle.cdc_top.specs.Thin.{IsLogEvent, IsThinFile, HasPairs, IsPair, Pair, pair_events, pair_entries, pair_length, entries_from, log_of}
+use Rattle.cdc_top.specs.Thin.{IsLogEvent, HasPairs, IsPair, Pair, pair_events, pair_length, entries_from, log_of}
 use Rattle.cdc_top.specs.Logs.{IsRead}
 use Rattle.cdc_top.specs.Small.{IsSmallEntry, IsSmallLog, IsSmallRead, IsSmallTransaction, IsShortPrint, shown_file}
 use Rattle.cdc_top.proofs.SmallLogs.{ordered_small}

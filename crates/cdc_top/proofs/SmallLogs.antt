@@ -1,26 +1,24 @@
 -- Small logs give small transactions.
-use Rattle.std.proofs.Common.{◌≡◌, ℕ, ◌+◌, ◌≤◌, Bool, true, false, not, cond, List, [], ◌∷◌, ◌++◌, length, filter, map, reverse, Option, Some, None, refl, arith, is_none}
+use Rattle.std.proofs.Common.{◌≡◌, ℕ, ◌+◌, ◌≤◌, Bool, true, false, not, cond, List, [], ◌∷◌, ◌++◌, length, filter, map, reverse, Option, Some, None, is_none}
 use Rattle.std.specs.List.{AllByRecursion, flat_map, enumerate_from, fold}
 use Rattle.std.proofs.lemmas.Grind.{reverse_onto}
 use Rattle.std.specs.Ordering.{is_lt}
 use Rattle.std.specs.declared.cmp.Ordering.{Ordering}
 use Rattle.std.specs.declared.cmp.Ordering.TheVariants.{Less, Equal, Greater}
 use Rattle.cdc_base.specs.declared.key.Key.{Key}
-use Rattle.cdc_base.specs.declared.key.Key.TheVariants.{Shared, Plain as PlainKey}
+use Rattle.cdc_base.specs.declared.key.Key.TheVariants.{Shared}
 use Rattle.cdc_base.specs.declared.xid.Xid.{Xid}
 use Rattle.cdc_base.specs.Key.{key_order}
 use Rattle.cdc_model.specs.declared.entry.EntryKind.{EntryKind}
 use Rattle.cdc_model.specs.declared.entry.EntryKind.TheVariants.{Prepare, OnePhase, Commit, Rollback, Plain, Beat}
-use Rattle.cdc_model.specs.declared.fault.SortFault.{SortFault}
 use Rattle.cdc_model.specs.declared.node_log.NodeLog.{NodeLog}
-use Rattle.cdc_model.specs.Records.{LogEntry, CommittedBranch, OpenBranch, Transaction, Start}
+use Rattle.cdc_model.specs.Records.{LogEntry, CommittedBranch, OpenBranch, Start}
 use Rattle.cdc_base.specs.Xid.{same_xid, xid_order}
 use Rattle.cdc_model.specs.Start.{find_open, without, enter, opened_by, next, left_by}
 use Rattle.cdc_model.specs.Soundness.{entry_fault, sound_entries, sound_history}
-use Rattle.cdc_model.specs.Branch.{Begun, committed, branch_of, begun_branches, is_new, new_branches, committed_branches, is_settled}
-use Rattle.cdc_model.specs.Transaction.{node_branches, all_branches, placed_key, put, add_settled, settled_keys, has_key, transaction_of, transactions_of, ordered_transactions, logs_low_water_mark}
+use Rattle.cdc_model.specs.Branch.{Begun, committed, branch_of, begun_branches, is_new, is_settled}
+use Rattle.cdc_model.specs.Transaction.{node_branches, all_branches, placed_key, put, add_settled, settled_keys, has_key, transactions_of, ordered_transactions, logs_low_water_mark}
 use Rattle.cdc_writer.specs.Short.{HasShortId}
-use Rattle.cdc_writer.specs.Short.{HasNoRows as BranchHasNoRows}
 use Rattle.cdc_top.specs.Small.{IsSmallKind, IsSmallEntry, IsSmallOpen, IsSmallBranch, IsSmallTransaction, IsSmallLog}
 
 -- ---- lists of which each item has a property

@@ -1,5 +1,5 @@
 -- Statuses, and lines on the error stream.
-use Rattle.std.specs.Prelude.{◌≡◌, ℕ, ◌⊎◌, List, [], ◌∷◌, ◌++◌, codes, decimal}
+use Rattle.std.specs.Prelude.{◌≡◌, ℕ, ◌⊎◌, List, [], ◌++◌, codes, decimal}
 use Rattle.cdc_outside.specs.Count.{Rose}
 use Rattle.cdc_outside.specs.Sink.{WritesTo}
 use Rattle.cdc_top.specs.declared.answer.Answer.{Answer}

@@ -1,8 +1,7 @@
 -- What a call of `print` answers, and why.
-use Rattle.std.specs.Prelude.{◌≡◌, ℕ, ◌⊎◌, Bool, true, false, IsTrue, List, slice_index, map}
+use Rattle.std.specs.Prelude.{◌≡◌, ℕ, ◌⊎◌, ◌++◌, Bool, true, false, IsTrue, List, map}
 use Rattle.cdc_outside.specs.Count.{Rose}
 use Rattle.cdc_outside.specs.Sink.{WritesTo}
-use Rattle.std.specs.Prelude.{◌++◌}
 use Rattle.cdc_model.specs.declared.node_log.NodeLog.{NodeLog}
 use Rattle.cdc_model.specs.Output.{unrotated_file}
 use Rattle.cdc_top.specs.declared.answer.Answer.{Answer}
@@ -23,6 +22,20 @@ pub record PrintCall : Type 0 where
   pub faults_before : ℕ
   pub faults_now : ℕ
 
+-- a call by its devices: what sources hold, how often they failed, what sinks have and how often they failed, of the
+-- words, the sources and the sink before and now
+abbrev pub call_seen : {S K : Type 0} → (S → List (List ℕ)) → (S → ℕ) → (K → List ℕ) → (K → ℕ) → List (List ℕ) → List S → List S → K → K → PrintCall
+call_seen held failed written faults words nodes nodes_now out out_now = record {
+  words = words;
+  nodes = map held nodes;
+  reads_before = map failed nodes;
+  reads_now = map failed nodes_now;
+  out_before = written out;
+  out_now = written out_now;
+  faults_before = faults out;
+  faults_now = faults out_now;
+}
+
 -- all nodes' logs are in the thin form
 abbrev pub IsInForm : PrintCall → Type 0
 IsInForm call = (logs : List NodeLog) × AreThinLogs call.nodes logs
@@ -35,6 +48,7 @@ WroteAll call = (logs : List NodeLog) × AreThinLogs call.nodes logs × (call.ou
 abbrev pub WroteFront : PrintCall → Type 0
 WroteFront call = (logs : List NodeLog) × AreThinLogs call.nodes logs × WritesTo call.out_before (unrotated_file logs) call.out_now
 
+-- nothing was written
 abbrev pub WroteNothing : PrintCall → Type 0
 WroteNothing call = call.out_now ≡ call.out_before
 

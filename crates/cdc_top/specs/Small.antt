@@ -1,9 +1,6 @@
 -- Logs whose prints are small: no rows, and ids of at most 64 bytes.
 use Rattle.std.specs.Prelude.{◌≡◌, ℕ, ◌≤◌, List, [], ◌∷◌, ◌++◌, length}
 use Rattle.std.specs.List.{AllByRecursion}
-use Rattle.cdc_base.specs.declared.xid.Xid.{Xid}
-use Rattle.cdc_base.specs.declared.key.Key.{Key}
-use Rattle.cdc_base.specs.declared.key.Key.TheVariants.{Shared, Plain as PlainKey}
 use Rattle.cdc_model.specs.declared.entry.EntryKind.{EntryKind}
 use Rattle.cdc_model.specs.declared.entry.EntryKind.TheVariants.{Prepare, OnePhase, Commit, Rollback, Plain, Beat}
 use Rattle.cdc_model.specs.declared.node_log.NodeLog.{NodeLog}
@@ -22,12 +19,15 @@ IsSmallKind (Rollback xid) = Unit {0}
 IsSmallKind (Plain rows seconds) = rows ≡ []
 IsSmallKind (Beat timestamp) = Unit {0}
 
+-- an entry of a small kind
 abbrev pub IsSmallEntry : LogEntry → Type 0
 IsSmallEntry entry = IsSmallKind entry.kind
 
+-- an open branch without rows
 abbrev pub IsSmallOpen : OpenBranch → Type 0
 IsSmallOpen branch = branch.rows ≡ []
 
+-- a committed branch without rows and with a short id
 pub record IsSmallBranch (branch : CommittedBranch) : Type 0 where
   pub rows : branch.rows ≡ []
   pub key : HasShortId branch.key

@@ -70,12 +70,13 @@ pub record IsPair (pair : Pair) : Type 0 where
   pub least : 1 ≤ pair.timestamp
   pub most : pair.timestamp < 2 ^ 63
 
+-- the five events of a pair, in order
 abbrev pub pair_events : Pair → List Event
 pair_events pair = pair.start ∷ pair.ended ∷ pair.prepare ∷ pair.stamp ∷ pair.commit ∷ []
 
 -- an entry of file 1 from a place on, of an event of this length
-abbrev pub entry_at : ℕ → ℕ → EntryKind → LogEntry
-entry_at at size kind = record {
+abbrev pub thin_entry_at : ℕ → ℕ → EntryKind → LogEntry
+thin_entry_at at size kind = record {
   kind = kind;
   at = record { file = 1; at = at };
   end = record { file = 1; at = at + size };
@@ -87,8 +88,8 @@ abbrev pub pair_entries : ℕ → Pair → List LogEntry
 pair_entries at pair =
     let prepared = at + pair.start.header.length + pair.ended.header.length in
     let committed = prepared + pair.prepare.header.length + pair.stamp.header.length in
-    entry_at prepared pair.prepare.header.length (Prepare pair.xid [])
-    ∷ entry_at committed pair.commit.header.length (Commit pair.xid pair.timestamp pair.commit.header.seconds) ∷ []
+    thin_entry_at prepared pair.prepare.header.length (Prepare pair.xid [])
+    ∷ thin_entry_at committed pair.commit.header.length (Commit pair.xid pair.timestamp pair.commit.header.seconds) ∷ []
 
 -- the bytes that a pair has
 abbrev pub pair_length : Pair → ℕ

@@ -2,6 +2,7 @@
 
 ghost use Rattle.std.specs.Prelude.{◌≡◌, ◌++◌, ◌+◌, ◌≤◌, IsTrue, length, take, decimal};
 ghost use Rattle.cdc_top.specs.Answers as answers;
+ghost use Rattle.cdc_top.specs.declared.answer.Answer.TheVariants.{Memory as NoMemory};
 
 use cdc_outside::Sink;
 
@@ -98,4 +99,14 @@ pub fn report<K: Sink>(answer: Answer, err: &mut K)
         Answer::Memory => say(err, b"cdc: memory\n"),
         Answer::Sink => say(err, b"cdc: sink\n"),
     }
+}
+
+/// The answer where there was no memory even for the words or the sources: its line, and its status.
+pub fn answer_without_memory<K: Sink>(err: &mut K) -> u8
+    ensures status { result ≡ answers.status_of NoMemory }
+    ensures line { IsTrue K.tells → answers.IsSaid (K.written err.old) (answers.line_of NoMemory) (K.written err.new) (K.faults err.old) (K.faults err.new) }
+    ensures later { K.faults err.old ≤ K.faults err.new }
+{
+    report(Answer::Memory, err);
+    status(Answer::Memory)
 }

@@ -13,7 +13,7 @@ mod print_file;
 mod thin;
 mod words;
 
-pub use answer::Answer;
+pub use answer::{Answer, answer_without_memory};
 pub use print_call::top;
 pub use thin::thin_form_is_unique;
 pub use words::{FILES_MAX, is_print};

@@ -1,6 +1,6 @@
 //! The logs of all nodes, read from their sources.
 
-ghost use Rattle.std.specs.Prelude.{◌≡◌, ℕ, ◌+◌, ◌≤◌, ◌++◌, ◌∷◌, IsTrue, length, map, slice_index, IfOk, IfErr, IfSome, IfNone, IsErrOf};
+ghost use Rattle.std.specs.Prelude.{◌≡◌, ◌+◌, ◌≤◌, IsTrue, length, map, IfOk, IfErr, IfSome, IfNone};
 ghost use Rattle.std.specs.List.{AllByRecursion};
 ghost use Rattle.cdc_outside.specs.Count.{Rose};
 ghost use Rattle.cdc_outside.specs.declared.whole.ReadWholeError.TheVariants.{Failed as SourceFailed};

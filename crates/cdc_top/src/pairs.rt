@@ -89,10 +89,10 @@ fn commit_timestamp(body: &Body) -> Option<u64>
 }
 
 /// The entry of an event of `size` bytes at byte `at` of file 1.
-fn entry_at(at: u64, size: u32, kind: EntryKind) -> Entry
+fn thin_entry_at(at: u64, size: u32, kind: EntryKind) -> Entry
     requires kept { IsKeptKind kind }
     requires fits { at + size < 2 ^ 64 }
-    ensures { result ≡ form.entry_at at size kind }
+    ensures { result ≡ form.thin_entry_at at size kind }
 {
     Entry {
         kind,
@@ -194,8 +194,8 @@ fn add_pair(
         timestamp: name.timestamp,
         seconds: group.commit.header.seconds,
     };
-    entries.push(entry_at(prepared, prepare, first))?;
-    entries.push(entry_at(committed, commit, second))?;
+    entries.push(thin_entry_at(prepared, prepare, first))?;
+    entries.push(thin_entry_at(committed, commit, second))?;
     Ok(Some(committed + u64::from(commit)))
 }
 

@@ -1,9 +1,8 @@
 //! The top call, for the command `print`.
 
-ghost use Rattle.std.specs.Prelude.{◌≡◌, ℕ, ◌+◌, ◌≤◌, ◌↔◌, ◌⊎◌, Bool, true, false, IsTrue, length, map};
-ghost use Rattle.cdc_outside.specs.Count.{Rose};
+ghost use Rattle.std.specs.Prelude.{◌≡◌, ◌+◌, ◌≤◌, true, IsTrue, length, map};
 ghost use Rattle.cdc_top.specs.Answers as answers;
-ghost use Rattle.cdc_top.specs.Call.{IsAnswerOf, IsAnswered};
+ghost use Rattle.cdc_top.specs.Call.{call_seen, IsAnswerOf, IsAnswered};
 ghost use Rattle.cdc_top.specs.Logs.{NoneFell};
 ghost use Rattle.cdc_top.specs.Words as command;
 ghost use Rattle.cdc_top.specs.declared.answer.Answer.{Answer};
@@ -24,16 +23,7 @@ fn print_nodes<S: Source, K: Sink>(
     out: &mut K,
 ) -> Answer
     requires { command.is_print words.now ≡ true → length nodes.old.items ≤ 256 }
-    ensures answer { IsAnswerOf S.tells K.tells record {
-      words = words.now;
-      nodes = map S.held nodes.old.items;
-      reads_before = map S.faults nodes.old.items;
-      reads_now = map S.faults nodes.new.items;
-      out_before = K.written out.old;
-      out_now = K.written out.new;
-      faults_before = K.faults out.old;
-      faults_now = K.faults out.new;
-    } result }
+    ensures answer { IsAnswerOf S.tells K.tells (call_seen S.held S.faults K.written K.faults words.now nodes.old.items nodes.new.items out.old out.new) result }
     ensures later { NoneFell (map S.faults nodes.old.items) (map S.faults nodes.new.items) }
     ensures held { map S.held nodes.new.items ≡ map S.held nodes.old.items }
     ensures sink_later { K.faults out.old ≤ K.faults out.new }
@@ -81,28 +71,10 @@ pub fn top<S: Source, K: Sink>(
     requires { command.is_print words.now ≡ true → length nodes.old.items + 1 ≡ length words.now }
 
     // The promises, status by status.
-    ensures answered { IsAnswered S.tells K.tells record {
-      words = words.now;
-      nodes = map S.held nodes.old.items;
-      reads_before = map S.faults nodes.old.items;
-      reads_now = map S.faults nodes.new.items;
-      out_before = K.written out.old;
-      out_now = K.written out.new;
-      faults_before = K.faults out.old;
-      faults_now = K.faults out.new;
-    } result }
+    ensures answered { IsAnswered S.tells K.tells (call_seen S.held S.faults K.written K.faults words.now nodes.old.items nodes.new.items out.old out.new) result }
 
     // The answer, with the node that it names, and its line.
-    ensures answer { (answer : Answer) × (result ≡ answers.status_of answer) × IsAnswerOf S.tells K.tells record {
-      words = words.now;
-      nodes = map S.held nodes.old.items;
-      reads_before = map S.faults nodes.old.items;
-      reads_now = map S.faults nodes.new.items;
-      out_before = K.written out.old;
-      out_now = K.written out.new;
-      faults_before = K.faults out.old;
-      faults_now = K.faults out.new;
-    } answer × (IsTrue K.tells → answers.IsSaid (K.written err.old) (answers.line_of answer) (K.written err.new) (K.faults err.old) (K.faults err.new)) }
+    ensures answer { (answer : Answer) × (result ≡ answers.status_of answer) × IsAnswerOf S.tells K.tells (call_seen S.held S.faults K.written K.faults words.now nodes.old.items nodes.new.items out.old out.new) answer × (IsTrue K.tells → answers.IsSaid (K.written err.old) (answers.line_of answer) (K.written err.new) (K.faults err.old) (K.faults err.new)) }
 
     // No count falls, and sources hold what they held.
     ensures later { NoneFell (map S.faults nodes.old.items) (map S.faults nodes.new.items) }

@@ -4,12 +4,11 @@ ghost use Rattle.std.specs.Prelude.{◌≡◌, [], ◌+◌, ◌*◌, ◌≤◌, 
 ghost use Rattle.std.specs.List.{AllByRecursion};
 ghost use Rattle.cdc_model.specs.Print.{printed_bytes, printed_length};
 ghost use Rattle.cdc_model.specs.Output.{file_head, last_place, unrotated_file};
-ghost use Rattle.cdc_outside.specs.Count.{Rose};
 ghost use Rattle.cdc_outside.specs.Sink.{WritesTo};
 ghost use Rattle.cdc_top.specs.Logs.{IsRead};
 ghost use Rattle.cdc_top.specs.Small.{IsShortPrint, shown_file};
 ghost use Rattle.cdc_top.specs.Printing.{HasWriteCause, IsFlushed};
-ghost use Rattle.cdc_top.specs.declared.print_file.WriteError.TheVariants.{Sink as SinkFailed, Memory as NoMemory};
+ghost use Rattle.cdc_top.specs.declared.print_file.WriteError.TheVariants.{Memory as NoMemory};
 
 use cdc_base::{Buffer, Memory, first_key};
 use cdc_model::{NodeLog, Txn};
@@ -88,10 +87,8 @@ fn print_next<K: Sink>(
     if gathered.len() < PIECE {
         return Ok(next);
     }
-    match flush(gathered, out) {
-        Ok(()) => Ok(next),
-        Err(error) => Err(error),
-    }
+    flush(gathered, out)?;
+    Ok(next)
 }
 
 /// Writes the file of transactions whose prints are short: nothing where there is none, or the head and all
@@ -110,21 +107,13 @@ fn print_transactions<K: Sink>(alloc: Global, txns: &[Txn], out: &mut K) -> Resu
     head_has_its_length();
     let names = Names::new(alloc);
     let mut gathered = Buffer::new(alloc);
-    match write_head(&mut gathered) {
-        Ok(()) => {}
-        Err(Memory) => return Err(WriteError::Memory),
-    }
+    write_head(&mut gathered)?;
     let mut at = HEAD_LENGTH as u64;
     for txn in txns {
-        match print_next(alloc, txn, &names, at, &mut gathered, out) {
-            Ok(next) => at = next,
-            Err(error) => return Err(error),
-        }
+        at = print_next(alloc, txn, &names, at, &mut gathered, out)?;
     }
-    match flush(&mut gathered, out) {
-        Ok(()) => Ok(()),
-        Err(error) => Err(error),
-    }
+    flush(&mut gathered, out)?;
+    Ok(())
 }
 
 /// Writes the one file of all logs, which were read in the thin form.
@@ -138,9 +127,6 @@ pub fn print_logs<K: Sink>(alloc: Global, logs: &[NodeLog], out: &mut K) -> Resu
 {
     prints_without_rows_are_short();
     head_has_its_length();
-    let txns = match ordered_transactions(alloc, 0, &first_key(), logs) {
-        Ok(txns) => txns,
-        Err(Memory) => return Err(WriteError::Memory),
-    };
+    let txns = ordered_transactions(alloc, 0, &first_key(), logs)?;
     print_transactions(alloc, txns.as_slice(), out)
 }

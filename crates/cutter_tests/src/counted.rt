@@ -4,9 +4,9 @@ ghost use Rattle.std.specs.Prelude.{◌≡◌, ◌<◌, ◌^◌, ℕ, List, leng
 ghost use Rattle.cdc_event.specs.File.{PlacedEvent, AreFileEvents};
 ghost use Rattle.cdc_event.specs.declared.fault.FileFault.{FileFault};
 
-use crate::logs::log_of;
 use cdc_base::Memory;
 use cdc_cutter::{Cut, Cutter};
+use cdc_samples::Log;
 use std::alloc::Global;
 use std::test::Fail;
 
@@ -30,15 +30,13 @@ fn count_events(alloc: Global, file: &[u8]) -> Result<Option<usize>, Memory>
 fn a_file_has_so_many_events(rt: HostRuntime) -> Result<(), Fail> {
     for (words, wanted) in [
         ("M F0", 1),
-        ("M F0 S E R", 4),
-        ("M F1 S+ h2,22", 2),
-        ("M S", 0),
+        ("M F0 S(g1) E(g1) R(g1)", 4),
+        ("M F1 S(g1)+ h(2,22)", 2),
+        ("M S(g1)", 0),
     ] {
-        let log = log_of(rt.alloc(), words)?;
-        if log.len() > 1_000 {
-            return Err("a log of this length is no test")?;
-        }
-        assert_eq!(&rt; count_events(rt.alloc(), &log)?, Some(wanted), "{words}");
+        let log = Log::of(rt.alloc(), words)?;
+        let count = count_events(rt.alloc(), log.bytes())?;
+        assert_eq!(&rt; count, Some(wanted), "{words}");
     }
     Ok(())
 }

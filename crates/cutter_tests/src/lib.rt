@@ -8,6 +8,4 @@ mod counted;
 #[cfg(test)]
 mod cuts;
 #[cfg(test)]
-mod logs;
-#[cfg(test)]
 mod shown;

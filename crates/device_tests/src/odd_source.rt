@@ -3,7 +3,7 @@
 ghost use Rattle.std.specs.Prelude.{◌≡◌, ◌≤◌, ◌^◌, false, [], ◌∷◌, sum};
 
 use cdc_base::{Blob, Place};
-use cdc_outside::{Failed, Source, lowest_place};
+use cdc_outside::{Failed, Source, highest_place, lowest_place};
 
 /// One file, which has grown or shrunk since its length was told.
 #[derive(Drop)]
@@ -12,9 +12,8 @@ pub struct OddSource {
     told: u64,
     /// The most bytes that one read gives.
     step: usize,
-    /// The end of the bytes that were asked for.
-    asked: u64,
     lowest: Option<Place>,
+    highest: Option<Place>,
     ghost within: { sum (told ∷ []) ≤ 2 ^ 54 },
 }
 
@@ -24,13 +23,17 @@ impl OddSource {
             bytes,
             told: told as u64,
             step,
-            asked: 0,
             lowest: None,
+            highest: None,
         }
     }
 
+    /// The byte of the greatest place that was asked for, 0 where there is none.
     pub fn asked(&self) -> u64 {
-        self.asked
+        match self.highest {
+            Some(place) => place.at,
+            None => 0,
+        }
     }
 }
 
@@ -42,6 +45,8 @@ impl Source for OddSource {
     ghost sizes = { λ source. source.told ∷ [] };
 
     ghost lowest = { λ source. source.lowest };
+
+    ghost highest = { λ source. source.highest };
 
     ghost faults = { λ _. 0 };
 
@@ -59,7 +64,7 @@ impl Source for OddSource {
 
     fn read_at(&mut self, file: u32, at: u64, into: &mut [u8]) -> Result<usize, Failed> {
         self.lowest = lowest_place(self.lowest, file, at);
-        self.asked = self.asked.max(at.saturating_add(into.len() as u64));
+        self.highest = highest_place(self.highest, file, at, into.len());
         let bytes = self.bytes.bytes();
         let start = at.min(bytes.len() as u64) as usize;
         let read = into.len().min(bytes.len() - start).min(self.step);

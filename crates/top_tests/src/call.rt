@@ -1,8 +1,9 @@
 //! Calls of the top call, and what they gave.
 
-use crate::pieces::{Piece, log_of, printed};
+use crate::expected::printed;
 use cdc_base::{Buffer, Memory, Text, TextList};
 use cdc_memory::{MemSink, MemSource};
+use cdc_samples::{Log, NotMade};
 use cdc_top::{is_print, top};
 use std::alloc::Global;
 
@@ -97,12 +98,20 @@ pub fn print_one(alloc: Global, file: &[u8]) -> Result<Seen, Memory> {
     print_all(alloc, call_of(alloc, nodes))
 }
 
-/// Sources of these logs, one a node.
-pub fn sources_of(alloc: Global, logs: &[&[Piece]]) -> Result<Vec<MemSource>, Memory> {
+/// A source of the log of these words.
+pub fn source_in(alloc: Global, words: &str) -> Result<MemSource, NotMade> {
+    let log = Log::of(alloc, words)?;
+    Ok(source_of(alloc, log.bytes(), &[])?)
+}
+
+/// Sources of the logs of these words, one a node.
+pub fn sources_of(alloc: Global, logs: &[&str]) -> Result<Vec<MemSource>, NotMade> {
     let mut nodes = Vec::new(alloc);
-    for pieces in logs {
-        let log = log_of(alloc, pieces)?;
-        nodes.push(source_of(alloc, log.bytes(), &[])?)?;
+    for words in logs {
+        let source = source_in(alloc, words)?;
+        if nodes.push(source).is_err() {
+            return Err(NotMade::Memory);
+        }
     }
     Ok(nodes)
 }
@@ -110,8 +119,8 @@ pub fn sources_of(alloc: Global, logs: &[&[Piece]]) -> Result<Vec<MemSource>, Me
 /// Logs of nodes, and what printing them gives.
 #[derive(Clone, Copy)]
 pub struct Case<'a> {
-    /// The pieces of each node's log.
-    pub logs: &'a [&'a [Piece<'a>]],
+    /// The words of each node's log.
+    pub logs: &'a [&'a str],
     pub status: u8,
     /// The marks of the transactions that are printed.
     pub marks: &'a [&'a [u8]],
@@ -119,7 +128,7 @@ pub struct Case<'a> {
 }
 
 /// Whether the logs of a case give what it says.
-pub fn holds(alloc: Global, case: &Case) -> Result<bool, Memory> {
+pub fn holds(alloc: Global, case: &Case) -> Result<bool, NotMade> {
     let nodes = sources_of(alloc, case.logs)?;
     let want = printed(alloc, case.marks)?;
     let seen = print_all(alloc, call_of(alloc, nodes))?;

@@ -1,9 +1,10 @@
 //! Sources and sinks that fail.
 
 use crate::call::{Seen, call_of, print_all, source_of};
-use crate::pieces::{Piece, log_of, many_pairs};
+use crate::many::many_pairs;
 use cdc_base::Memory;
 use cdc_memory::MemSource;
+use cdc_samples::Log;
 use std::alloc::Global;
 use std::test::Fail;
 
@@ -42,8 +43,7 @@ fn print_failing(
 // A source is asked for the number of its files, the length of the first and its bytes, and for no more.
 #[test]
 fn a_source_that_fails_is_told(rt: HostRuntime) -> Result<(), Fail> {
-    let pair = [Piece::Head, Piece::Prepare(b"g1"), Piece::Commit(b"g1", 10)];
-    let log = log_of(rt.alloc(), &pair)?;
+    let log = Log::of(rt.alloc(), "H P(g1) C(g1,10)")?;
     for call in 1..=3u64 {
         let seen = print_failing(rt.alloc(), log.bytes(), 2, 1, call)?;
         assert!(rt;
@@ -119,7 +119,7 @@ fn a_sink_that_fails_is_told(rt: HostRuntime) -> Result<(), Fail> {
 // Where nothing is printed, nothing is written that could fail.
 #[test]
 fn no_transaction_needs_no_room(rt: HostRuntime) -> Result<(), Fail> {
-    let log = log_of(rt.alloc(), &[Piece::Head])?;
+    let log = Log::of(rt.alloc(), "H")?;
     let seen = print_to(rt.alloc(), log.bytes(), 0, &[])?;
     assert!(rt; seen.is(0, b"", b"") && seen.out.faults() == 0);
     Ok(())

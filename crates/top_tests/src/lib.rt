@@ -7,12 +7,14 @@
 #[cfg(test)]
 mod call;
 #[cfg(test)]
+mod expected;
+#[cfg(test)]
 mod fault_tests;
 #[cfg(test)]
 mod log_tests;
 #[cfg(test)]
-mod node_tests;
+mod many;
 #[cfg(test)]
-mod pieces;
+mod node_tests;
 #[cfg(test)]
 mod word_tests;

@@ -1,9 +1,10 @@
 //! The log of one node.
 
 use crate::call::{Case, call_of, holds, print_all, print_one};
-use crate::pieces::{Piece, log_of, many_pairs};
+use crate::many::many_pairs;
 use cdc_base::{Blob, Memory};
 use cdc_memory::MemSource;
+use cdc_samples::Log;
 use std::alloc::Global;
 use std::test::Fail;
 
@@ -29,11 +30,8 @@ const MARK: &[u8] = b"CTS::0000000000000000010::0::6731";
 
 #[test]
 fn a_pair_is_printed(rt: HostRuntime) -> Result<(), Fail> {
-    let log = log_of(
-        rt.alloc(),
-        &[Piece::Head, Piece::Prepare(b"g1"), Piece::Commit(b"g1", 10)],
-    )?;
-    assert_eq!(rt; log.len(), 349);
+    let log = Log::of(rt.alloc(), "H P(g1) C(g1,10)")?;
+    assert_eq!(rt; log.bytes().len(), 349);
     let seen = print_one(rt.alloc(), log.bytes())?;
     assert!(rt; seen.is(0, &PRINTED, b""));
     Ok(())
@@ -41,40 +39,27 @@ fn a_pair_is_printed(rt: HostRuntime) -> Result<(), Fail> {
 
 #[test]
 fn a_log_in_the_thin_form_is_printed_and_no_other(rt: HostRuntime) -> Result<(), Fail> {
-    let head = Piece::Head;
-    let prepare = Piece::Prepare(b"g1");
-    let commit = Piece::Commit(b"g1", 10);
-    let other = Piece::Prepare(b"g2");
-    let other_commit = Piece::Commit(b"g2", 20);
     let second: &[u8] = b"CTS::0000000000000000020::0::6732";
-    let cases: [(&[Piece], u8, &[&[u8]]); 16] = [
-        (&[], 0, &[]),
-        (&[head], 0, &[]),
-        (&[head, prepare, commit], 0, &[MARK]),
-        (
-            &[head, prepare, commit, other, other_commit],
-            0,
-            &[MARK, second],
-        ),
-        (&[head, prepare], 3, &[]),
-        (&[head, commit], 3, &[]),
-        (&[head, prepare, commit, commit], 3, &[]),
-        (&[head, prepare, other, commit, other_commit], 3, &[]),
-        (&[head, prepare, other_commit], 3, &[]),
-        (
-            &[head, prepare, commit, other, Piece::Commit(b"g2", 10)],
-            3,
-            &[],
-        ),
-        (&[head, prepare, Piece::Commit(b"g1", 0)], 3, &[]),
-        (&[head, Piece::Local], 3, &[]),
-        (&[head, Piece::Beat(10)], 3, &[]),
-        (&[head, prepare, commit, Piece::Raw(&[0])], 3, &[]),
-        (&[Piece::Raw(b"\xfebin")], 3, &[]),
-        (&[prepare, commit], 3, &[]),
+    let cases: [(&str, u8, &[&[u8]]); 16] = [
+        ("", 0, &[]),
+        ("H", 0, &[]),
+        ("H P(g1) C(g1,10)", 0, &[MARK]),
+        ("H P(g1) C(g1,10) P(g2) C(g2,20)", 0, &[MARK, second]),
+        ("H P(g1)", 3, &[]),
+        ("H C(g1,10)", 3, &[]),
+        ("H P(g1) C(g1,10) C(g1,10)", 3, &[]),
+        ("H P(g1) P(g2) C(g1,10) C(g2,20)", 3, &[]),
+        ("H P(g1) C(g2,20)", 3, &[]),
+        ("H P(g1) C(g1,10) P(g2) C(g2,10)", 3, &[]),
+        ("H P(g1) C(g1,0)", 3, &[]),
+        ("H L", 3, &[]),
+        ("H B(10)", 3, &[]),
+        ("H P(g1) C(g1,10) 00", 3, &[]),
+        ("M", 3, &[]),
+        ("P(g1) C(g1,10)", 3, &[]),
     ];
-    for (number, (pieces, status, marks)) in cases.iter().enumerate() {
-        let line: &[u8] = if *status == 3 {
+    for (words, status, marks) in cases {
+        let line: &[u8] = if status == 3 {
             b"cdc: node 1 not yet\n"
         } else {
             b""
@@ -82,13 +67,13 @@ fn a_log_in_the_thin_form_is_printed_and_no_other(rt: HostRuntime) -> Result<(),
         let good = holds(
             rt.alloc(),
             &Case {
-                logs: &[*pieces],
-                status: *status,
-                marks: *marks,
+                logs: &[words],
+                status,
+                marks,
                 line,
             },
         )?;
-        assert!(rt; good, "log {number}");
+        assert!(rt; good, "{words}");
     }
     Ok(())
 }
@@ -108,10 +93,7 @@ fn is_cut_right(alloc: Global, log: &[u8], cut: usize) -> Result<bool, Memory> {
 
 #[test]
 fn a_log_that_is_cut_inside_is_not_in_form(rt: HostRuntime) -> Result<(), Fail> {
-    let log = log_of(
-        rt.alloc(),
-        &[Piece::Head, Piece::Prepare(b"g1"), Piece::Commit(b"g1", 10)],
-    )?;
+    let log = Log::of(rt.alloc(), "H P(g1) C(g1,10)")?;
     for cut in 0..350 {
         let good = is_cut_right(rt.alloc(), log.bytes(), cut)?;
         assert!(rt; good, "{cut} bytes");

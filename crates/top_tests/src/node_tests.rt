@@ -1,29 +1,24 @@
 //! The logs of several nodes.
 
 use crate::call::{Case, call_of, holds, print_all, source_of};
-use crate::pieces::{Piece, log_of, push_printed};
+use crate::expected::{HEAD, push_printed};
 use cdc_base::{Buffer, Memory};
 use cdc_memory::MemSource;
+use cdc_samples::{Log, NotMade};
 use std::alloc::Global;
 use std::test::Fail;
 
-const HEAD: &[Piece] = &[Piece::Head];
+const NONE: &str = "H";
 
-const FIRST: &[Piece] = &[Piece::Head, Piece::Prepare(b"g1"), Piece::Commit(b"g1", 10)];
+const FIRST: &str = "H P(g1) C(g1,10)";
 
-const TIED: &[Piece] = &[Piece::Head, Piece::Prepare(b"g2"), Piece::Commit(b"g2", 10)];
+const TIED: &str = "H P(g2) C(g2,10)";
 
-const LATER: &[Piece] = &[
-    Piece::Head,
-    Piece::Prepare(b"g3"),
-    Piece::Commit(b"g3", 9),
-    Piece::Prepare(b"g4"),
-    Piece::Commit(b"g4", 20),
-];
+const LATER: &str = "H P(g3) C(g3,9) P(g4) C(g4,20)";
 
-const LOCAL: &[Piece] = &[Piece::Head, Piece::Local];
+const LOCAL: &str = "H L";
 
-const BEAT: &[Piece] = &[Piece::Head, Piece::Beat(1)];
+const BEAT: &str = "H B(1)";
 
 const ONE: &[u8] = b"CTS::0000000000000000010::0::6731";
 
@@ -34,18 +29,18 @@ const THREE: &[u8] = b"CTS::0000000000000000009::0::6733";
 const FOUR: &[u8] = b"CTS::0000000000000000020::0::6734";
 
 // The tables of cases, by what they show.
-const SETTLED: [(&[&[Piece]], &[&[u8]]); 8] = [
+const SETTLED: [(&[&str], &[&[u8]]); 8] = [
     (&[FIRST, FIRST], &[ONE]),
     (&[FIRST, TIED], &[ONE, TWO]),
     (&[TIED, FIRST], &[ONE, TWO]),
-    (&[FIRST, HEAD], &[]),
-    (&[&[], FIRST], &[]),
+    (&[FIRST, NONE], &[]),
+    (&["", FIRST], &[]),
     (&[LATER, TIED], &[THREE, TWO]),
     (&[FIRST, LATER, TIED], &[THREE, ONE, TWO]),
     (&[LATER, LATER], &[THREE, FOUR]),
 ];
 
-const OUT_OF_FORM: [(&[&[Piece]], &[u8]); 4] = [
+const OUT_OF_FORM: [(&[&str], &[u8]); 4] = [
     (&[FIRST, LOCAL, BEAT], b"cdc: node 2 not yet\n"),
     (&[BEAT, LOCAL, FIRST], b"cdc: node 1 not yet\n"),
     (&[FIRST, FIRST, BEAT], b"cdc: node 3 not yet\n"),
@@ -81,18 +76,18 @@ fn the_least_node_out_of_form_is_named(rt: HostRuntime) -> Result<(), Fail> {
 }
 
 // A source of one pair at 7, whose id is one byte.
-fn one_pair(alloc: Global, id: u8) -> Result<MemSource, Memory> {
-    let id = [id];
-    let log = log_of(
-        alloc,
-        &[Piece::Head, Piece::Prepare(&id), Piece::Commit(&id, 7)],
-    )?;
-    source_of(alloc, log.bytes(), &[])
+fn one_pair(alloc: Global, id: u8) -> Result<MemSource, NotMade> {
+    let mut log = Log::new(alloc);
+    log.head()?;
+    log.prepare(&[id])?;
+    log.commit(&[id], 7)?;
+    Ok(source_of(alloc, log.bytes(), &[])?)
 }
 
 // The printed file of the ids 0 to 255 at 7, behind a head.
 fn printed_ids(alloc: Global) -> Result<Buffer, Memory> {
-    let mut file = log_of(alloc, &[Piece::Head])?;
+    let mut file = Buffer::new(alloc);
+    file.push(&HEAD)?;
     for high in 0..16u8 {
         for low in 0..16u8 {
             let mut mark = Buffer::new(alloc);

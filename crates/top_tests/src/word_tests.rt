@@ -1,7 +1,6 @@
 //! The words of the command line.
 
 use crate::call::{call_of, call_with, print_words, sources_of, words_of};
-use crate::pieces::Piece;
 use std::test::Fail;
 
 #[test]
@@ -43,8 +42,7 @@ fn a_line_that_cannot_be_written_is_let_be(rt: HostRuntime) -> Result<(), Fail> 
     call.err_room = 10;
     let seen = call_with(rt.alloc(), &[], call)?;
     assert!(rt; seen.is(2, b"", b"") && seen.err.faults() == 1);
-    let logs: [&[Piece]; 1] = [&[Piece::Head, Piece::Local]];
-    let mut call = call_of(rt.alloc(), sources_of(rt.alloc(), &logs)?);
+    let mut call = call_of(rt.alloc(), sources_of(rt.alloc(), &["H L"])?);
     call.err_room = 0;
     let words = print_words(rt.alloc(), 1)?;
     let seen = call_with(rt.alloc(), words.as_slice(), call)?;

@@ -1,4 +1,5 @@
 use Rattle.std.proofs.Common.{inr, ◌∙◌, arith}
+use Rattle.cdc_outside.proofs.Highest.{asks_within}
 use Rattle.cdc_outside.proofs.Lowest.{asks_again}
 use Rattle.cdc_outside.proofs.Piece.{next_front}
 use Rattle.cdc_outside.proofs.whole.read_told.Goals as goal
@@ -18,5 +19,12 @@ loop-at-preserved g c = record {
   later = omega (arith, c.in_ok-read.ensures.later, c.loop-at.invariant.later);
   held = c.in_ok-read.ensures.held ∙ c.loop-at.invariant.held;
   sizes = c.in_ok-read.ensures.sizes ∙ c.loop-at.invariant.sizes;
+  past = asks_within _ _ _ c.args.file _ c.args.told (omega (arith, c.loop-at.invariant.within)) c.loop-at.invariant.past c.in_ok-read.ensures.highest;
   lowest = inr (asks_again _ _ _ c.args.file c.loop-at.at c.loop-at.invariant.lowest c.in_ok-read.ensures.lowest);
 }
+
+pub returns-in_err-read-clause-past : goal.returns-in_err-read-clause-past
+returns-in_err-read-clause-past g c = asks_within _ _ _ c.args.file _ c.args.told (omega (arith, c.loop-at.invariant.within)) c.loop-at.invariant.past c.in_err-read.ensures.highest
+
+pub returns-then-read-eq0-clause-past : goal.returns-then-read-eq0-clause-past
+returns-then-read-eq0-clause-past g c = asks_within _ _ _ c.args.file _ c.args.told (omega (arith, c.loop-at.invariant.within)) c.loop-at.invariant.past c.in_ok-read.ensures.highest

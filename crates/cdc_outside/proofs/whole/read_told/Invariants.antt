@@ -1,5 +1,5 @@
 use Rattle.std.proofs.Common.{◌-◌, ◌≡◌, ◌≤◌, IsTrue, length, take}
-use Rattle.cdc_outside.specs.Source.{file_of}
+use Rattle.cdc_outside.specs.Source.{file_of, NothingPast}
 use Rattle.cdc_outside.proofs.Lowest.{SoFar}
 use Rattle.cdc_outside.proofs.whole.read_told.Given as goal
 
@@ -13,6 +13,7 @@ invariant-loop-at g l = record {
   later : g.S.Source.faults l.fn.source ≤ g.S.Source.faults l.source;
   held : g.S.Source.held l.source ≡ g.S.Source.held l.fn.source;
   sizes : g.S.Source.sizes l.source ≡ g.S.Source.sizes l.fn.source;
+  past : NothingPast l.file l.told (g.S.Source.highest l.fn.source) (g.S.Source.highest l.source);
   lowest : SoFar (g.S.Source.lowest l.fn.source) l.file l.at (g.S.Source.lowest l.source);
 }
 

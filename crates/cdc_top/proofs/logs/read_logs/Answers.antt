@@ -1,4 +1,4 @@
-use Rattle.std.proofs.Common.{◌≡◌, ◌<◌, [], length, map, take, get_or, ◌∙◌, sym, ap, arith}
+use Rattle.std.proofs.Common.{◌≡◌, ◌<◌, [], length, map, get_or, ◌∙◌, sym, ap, arith}
 use Rattle.std.proofs.lemmas.List.{get_or-map, length-map}
 use Rattle.cdc_top.proofs.Nodes.{held_kept, later_kept, cause_kept, same_length, step_kept}
 use Rattle.cdc_top.proofs.logs.read_logs.Goals as goal

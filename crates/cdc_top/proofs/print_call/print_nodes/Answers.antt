@@ -1,4 +1,4 @@
-use Rattle.std.proofs.Common.{◌≡◌, ◌≤◌, true, length, ap, arith, rules}
+use Rattle.std.proofs.Common.{◌≡◌, true, length, ap, arith, rules}
 use Rattle.cdc_top.specs.Words as command
 use Rattle.cdc_top.proofs.print_call.print_nodes.Goals as goal
 

@@ -1,0 +1,11 @@
+mod Numerals
+mod ExtraKeys
+mod Filed
+mod Items
+mod Judged
+mod KeyTests
+mod PathKeys
+mod Readings
+mod RuleNames
+mod RuleSizes
+mod Whole

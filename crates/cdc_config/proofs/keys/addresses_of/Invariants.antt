@@ -1,0 +1,7 @@
+use Rattle.std.proofs.Common.{◌≡◌, take}
+use Rattle.cdc_config.specs.Keys.{addresses_of}
+use Rattle.cdc_config.proofs.keys.addresses_of.Given as goal
+
+-- the texts so far
+abbrev pub invariant-loop-out : goal.invariant-loop-out
+invariant-loop-out l = l.addresses ≡ addresses_of (take l.out-index l.outs)

@@ -1,0 +1,11 @@
+pub mod Filing
+pub mod Judging
+pub mod KeyWords
+pub mod Keys
+pub mod Limits
+pub mod Number
+pub mod Options
+pub mod Plan
+pub mod Tree
+pub mod Verb
+pub mod Words

@@ -1,0 +1,5 @@
+pub mod Taken
+pub mod Sizes
+pub mod Put
+pub mod Steps
+pub mod Groups

@@ -1,0 +1,4 @@
+pub mod DiskContents
+pub mod Draws
+pub mod Handing
+pub mod Replays

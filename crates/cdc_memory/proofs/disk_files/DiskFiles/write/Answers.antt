@@ -1,0 +1,8 @@
+use Rattle.std.proofs.Common.{◌≡◌, ℕ, List}
+use Rattle.cdc_outside.specs.Disk.{overwritten}
+use Rattle.cdc_memory.proofs.DiskContents.{changed_file}
+use Rattle.cdc_memory.proofs.disk_files.DiskFiles.write.Goals as goal
+
+pub returns-in-Some-clause-content : goal.returns-in-Some-clause-content
+returns-in-Some-clause-content c =
+    changed_file c.args.self.now.files.items c.args.file c.in-Some.place c.index_mut.result.now c.write.new.self (λ (l : List ℕ). overwritten c.args.at c.args.from.now l) c.in-Some.ensures.0 c.in-Some.ensures.1 c.index_mut.ensures.value c.write.ensures.bytes

@@ -1,0 +1,5 @@
+use Rattle.cdc_model.proofs.RestartRest.{restart_reads_the_rest}
+use Rattle.cdc_model.proofs.restart_laws.restart_reads_the_rest.Goals as goal
+
+pub returns : goal.returns
+returns c = restart_reads_the_rest

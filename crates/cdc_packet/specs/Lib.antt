@@ -1,0 +1,4 @@
+pub mod Command
+pub mod Packet
+pub mod Pieces
+pub mod Request

@@ -1,5 +1,0 @@
-use Rattle.print_tests.proofs.Kept.{marked_kept}
-use Rattle.print_tests.proofs.build.marked_row.Goals as goal
-
-pub returns : goal.returns
-returns c = rw c.in_ok-text.ensures (marked_kept c.args.text.now c.requires)
