@@ -7,7 +7,7 @@ use Rattle.std.specs.declared.cmp.Ordering.TheVariants.{Equal}
 use Rattle.cdc_base.specs.declared.key.Key.{Key}
 use Rattle.cdc_base.specs.declared.key.Key.TheVariants.{Shared, Plain}
 
--- a key's commit timestamp
+-- the timestamp of a key
 abbrev pub timestamp_of : Key → ℕ
 timestamp_of (Shared timestamp gtrid) = timestamp
 timestamp_of (Plain timestamp node entry) = timestamp
@@ -17,17 +17,17 @@ abbrev pub class_of : Key → ℕ
 class_of (Shared timestamp gtrid) = 0
 class_of (Plain timestamp node entry) = 1
 
--- a shared key's global transaction id; a local key has none
+-- the id of a shared key
 abbrev pub id_of : Key → List ℕ
 id_of (Shared timestamp gtrid) = gtrid
 id_of (Plain timestamp node entry) = []
 
--- a local key's node; a shared key has none
+-- the node of a local key
 abbrev pub node_of : Key → ℕ
 node_of (Shared timestamp gtrid) = 0
 node_of (Plain timestamp node entry) = node
 
--- a local key's entry number; a shared key has none
+-- the entry number of a local key
 abbrev pub entry_of : Key → ℕ
 entry_of (Shared timestamp gtrid) = 0
 entry_of (Plain timestamp node entry) = entry

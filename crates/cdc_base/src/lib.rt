@@ -16,6 +16,7 @@ mod ranked;
 mod rename;
 mod steps;
 mod text;
+mod user;
 mod xid;
 
 pub use blob::Blob;
@@ -29,4 +30,5 @@ pub use ranked::Ranked;
 pub use rename::{Rename, RenameList};
 pub use steps::Steps;
 pub use text::{Text, TextList};
+pub use user::{User, UserList};
 pub use xid::{Xid, same_xid, xid_cmp};

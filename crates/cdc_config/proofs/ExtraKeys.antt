@@ -8,13 +8,13 @@ use Rattle.cdc_config.specs.declared.command.Refusal.TheVariants as refusal
 use Rattle.cdc_config.specs.declared.judging.Extras.{Extras}
 use Rattle.cdc_config.specs.declared.misfit.Misfit.{Misfit}
 use Rattle.cdc_config.specs.declared.plan.SplitPlan.{SplitPlan}
-use Rattle.cdc_config.specs.declared.plan.User.{User}
+use Rattle.cdc_base.specs.declared.user.User.{User}
 use Rattle.cdc_config.specs.declared.shape.Shape.TheVariants as shape
 use Rattle.cdc_config.specs.Filing.{AreNamesIn, GivesNames}
 use Rattle.cdc_config.specs.Judging.{AreExtras, extra_keys, split_given}
 use Rattle.cdc_config.specs.Keys.{rules_from, users_from}
 use Rattle.cdc_config.specs.Plan.{Judges, refusal_at}
-use Rattle.cdc_config.specs.Tree.{Gives, is_shaped}
+use Rattle.cdc_config.specs.Tree.{GivesPart, is_shaped}
 use Rattle.cdc_config.proofs.Judged.{passed_on, refused_here, refused_now}
 use Rattle.cdc_config.proofs.KeyTests.{names_give, split_test, table_test, unknown_test, user_test}
 
@@ -35,13 +35,13 @@ past_users root users r u h = passed_on root key.User (key.Split ∷ key.Unknown
 past_split : (root : Data) (split : Option SplitPlan) (r : Result Extras Refusal) → split_given root ≡ Some split → Judges r root (key.Unknown ∷ []) (AreExtras root) → Judges r root (key.Split ∷ key.Unknown ∷ []) (AreExtras root)
 past_split root split r s h = passed_on root key.Split (key.Unknown ∷ []) r (AreExtras root) (split_test root ∙ ap is_some s) h
 
-pub user_refused : (root : Data) (names : List Rename) (why : Misfit) (answer : Refusal) → answer ≡ refusal_at why key.User → AreNamesIn root names → Gives {A = List User} (Err why) (users_from root)
+pub user_refused : (root : Data) (names : List Rename) (why : Misfit) (answer : Refusal) → answer ≡ refusal_at why key.User → AreNamesIn root names → GivesPart {A = List User} (Err why) (users_from root)
     → Judges {A = Extras} (Err answer) root extra_keys (AreExtras root)
 user_refused root names why answer same n h =
     subst (λ (r : Refusal). Judges {A = Extras} (Err r) root extra_keys (AreExtras root)) (sym same)
     (past_names root names (Err (refusal_at why key.User)) n (refused_here root key.User (key.Split ∷ key.Unknown ∷ []) (users_from root) why (AreExtras root) (user_test root) h))
 
-pub split_refused : (root : Data) (names : List Rename) (users : List User) (why : Misfit) (answer : Refusal) → answer ≡ refusal_at why key.Split → AreNamesIn root names → users_from root ≡ Some users → Gives {A = Option SplitPlan} (Err why) (split_given root)
+pub split_refused : (root : Data) (names : List Rename) (users : List User) (why : Misfit) (answer : Refusal) → answer ≡ refusal_at why key.Split → AreNamesIn root names → users_from root ≡ Some users → GivesPart {A = Option SplitPlan} (Err why) (split_given root)
     → Judges {A = Extras} (Err answer) root extra_keys (AreExtras root)
 split_refused root names users why answer same n u h =
     subst (λ (r : Refusal). Judges {A = Extras} (Err r) root extra_keys (AreExtras root)) (sym same)

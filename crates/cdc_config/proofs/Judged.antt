@@ -8,10 +8,10 @@ use Rattle.cdc_config.specs.declared.command.Refusal.TheVariants as refusal
 use Rattle.cdc_config.specs.declared.misfit.Misfit.{Misfit}
 use Rattle.cdc_config.specs.declared.misfit.Misfit.TheVariants as misfit
 use Rattle.cdc_config.specs.Plan.{Judges, accepts, refusal_at, refused_among}
-use Rattle.cdc_config.specs.Tree.{Gives}
+use Rattle.cdc_config.specs.Tree.{GivesPart}
 
 -- a key whose value can't be had is the first that is refused
-pub refused_here : {A B : Type 0} (root : Data) (k : ConfigKey) (more : List ConfigKey) (found : Option A) (why : Misfit) (P : B → Type 0) → accepts root k ≡ is_some found → Gives {A = A} (Err why) found
+pub refused_here : {A B : Type 0} (root : Data) (k : ConfigKey) (more : List ConfigKey) (found : Option A) (why : Misfit) (P : B → Type 0) → accepts root k ≡ is_some found → GivesPart {A = A} (Err why) found
     → Judges {A = B} (Err (refusal_at why k)) root (k ∷ more) P
 refused_here root k more found misfit.Refused P same h =
     let refuses : accepts root k ≡ false = same ∙ ap is_some h in

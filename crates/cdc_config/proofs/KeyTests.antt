@@ -13,7 +13,7 @@ use Rattle.cdc_config.specs.Filing.{GivesNames}
 use Rattle.cdc_config.specs.Judging.{split_given}
 use Rattle.cdc_config.specs.Keys.{GivesOuts, folders_of, nodes_from, outs_from, rotation_from, rules_from, split_from, task_from, users_from, window_from}
 use Rattle.cdc_config.specs.Plan.{ArePaths, accepts, outs_in, taken_in, task_in}
-use Rattle.cdc_config.specs.Tree.{Gives, is_shaped}
+use Rattle.cdc_config.specs.Tree.{GivesPart, is_shaped}
 
 pub rotation_test : (root : Data) → accepts root key.Rotation ≡ is_some (rotation_from root)
 unfolding accepts
@@ -56,7 +56,7 @@ pub mapped_some : {A B : Type 0} (made : A → B) (found : Option A) (last : B) 
 mapped_some made None last h = cc
 mapped_some made (Some value) last h = refl
 
-pub outs_give : (why : Misfit) (found : Option (List OutTable)) → GivesOuts (Err why) found → Gives {A = List OutTable} (Err why) found
+pub outs_give : (why : Misfit) (found : Option (List OutTable)) → GivesOuts (Err why) found → GivesPart {A = List OutTable} (Err why) found
 outs_give misfit.Refused found h = h
 outs_give misfit.Memory found h = tt
 
@@ -86,6 +86,6 @@ split_same root paths taken h same =
     ap (λ (n : ℕ). split_from n taken root) (outs_count root paths.out_folders h.outs_are)
     ∙ ap (λ (t : List (List ℕ)). split_from (length (outs_in root)) t root) (same ∙ taken_same root paths h)
 
-pub names_give : (why : Misfit) (root : Data) → GivesNames (Err why) root → Gives {A = List Rename} (Err why) (rules_from root)
+pub names_give : (why : Misfit) (root : Data) → GivesNames (Err why) root → GivesPart {A = List Rename} (Err why) (rules_from root)
 names_give misfit.Refused root h = h
 names_give misfit.Memory root h = tt

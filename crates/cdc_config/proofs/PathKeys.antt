@@ -10,7 +10,7 @@ use Rattle.cdc_config.specs.declared.plan.Paths.{Paths}
 use Rattle.cdc_config.specs.Judging.{AreSizesIn, path_keys, size_keys}
 use Rattle.cdc_config.specs.Keys.{GivesOuts, addresses_of, folders_of, nodes_from, outs_from, rotation_from, task_from, window_from}
 use Rattle.cdc_config.specs.Plan.{ArePaths, Judges, refusal_at}
-use Rattle.cdc_config.specs.Tree.{Gives}
+use Rattle.cdc_config.specs.Tree.{GivesPart}
 use Rattle.cdc_config.proofs.Judged.{passed_on, refused_here, refused_now}
 use Rattle.cdc_config.proofs.KeyTests.{mapped_some, node_test, out_test, outs_give, rotation_test, task_same, task_test, window_test}
 
@@ -27,7 +27,7 @@ sizes_judged root sizes r w =
     passed_on root key.Rotation (key.Window ∷ []) (Ok sizes) (AreSizesIn root) (rotation_test root ∙ ap is_some (sym r))
     (passed_on root key.Window [] (Ok sizes) (AreSizesIn root) (window_test root ∙ ap is_some (sym w)) (refl, record { rotation_is = sym r; window_is = sym w }))
 
-pub node_refused : (root : Data) (why : Misfit) (answer : Refusal) → answer ≡ refusal_at why key.Node → Gives {A = List (List (List ℕ))} (Err why) (nodes_from root)
+pub node_refused : (root : Data) (why : Misfit) (answer : Refusal) → answer ≡ refusal_at why key.Node → GivesPart {A = List (List (List ℕ))} (Err why) (nodes_from root)
     → Judges {A = Paths} (Err answer) root path_keys (ArePaths root)
 node_refused root why answer same h =
     subst (λ (r : Refusal). Judges {A = Paths} (Err r) root path_keys (ArePaths root)) (sym same)
@@ -41,7 +41,7 @@ out_refused root nodes why answer same n h =
     (refused_here root key.Out (key.Task ∷ []) (outs_from root) why (ArePaths root) (out_test root) (outs_give why (outs_from root) h)))
 
 pub task_refused : (root : Data) (nodes : List (List (List ℕ))) (folders : List (List ℕ)) (why : Misfit) (answer : Refusal) → answer ≡ refusal_at why key.Task → nodes_from root ≡ Some nodes → option_map folders_of (outs_from root) ≡ Some folders
-    → Gives {A = List ℕ} (Err why) (task_from folders root) → Judges {A = Paths} (Err answer) root path_keys (ArePaths root)
+    → GivesPart {A = List ℕ} (Err why) (task_from folders root) → Judges {A = Paths} (Err answer) root path_keys (ArePaths root)
 task_refused root nodes folders why answer same n o h =
     subst (λ (r : Refusal). Judges {A = Paths} (Err r) root path_keys (ArePaths root)) (sym same)
     (passed_on root key.Node (key.Out ∷ key.Task ∷ []) (Err (refusal_at why key.Task)) (ArePaths root) (node_test root ∙ ap is_some n)

@@ -12,7 +12,7 @@ use Rattle.cdc_config.specs.declared.misfit.Misfit.TheVariants as misfit
 use Rattle.cdc_config.specs.declared.parts.OutTable.{OutTable}
 use Rattle.cdc_config.specs.declared.parts.TableNames.{TableNames}
 use Rattle.cdc_config.specs.declared.plan.SplitPlan.{SplitPlan}
-use Rattle.cdc_config.specs.declared.plan.User.{User}
+use Rattle.cdc_base.specs.declared.user.User.{User}
 use Rattle.cdc_config.specs.declared.shape.Shape.TheVariants as shape
 use Rattle.cdc_config.specs.Tree.{array_of, are_distinct, if_passed, is_among, is_shaped, path_text, sized_text, whole_number}
 

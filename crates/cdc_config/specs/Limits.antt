@@ -3,7 +3,7 @@ use Rattle.std.specs.Prelude.{◌≡◌, ℕ, ◌≤◌, ◌^◌, length, List, 
 use Rattle.std.specs.Option.{ForSome}
 use Rattle.cdc_config.specs.declared.plan.Paths.{Paths}
 use Rattle.cdc_config.specs.declared.plan.SplitPlan.{SplitPlan}
-use Rattle.cdc_config.specs.declared.plan.User.{User}
+use Rattle.cdc_base.specs.declared.user.User.{User}
 
 -- a number is within two bounds
 pub record IsWithin (least most number : ℕ) : Type 0 where

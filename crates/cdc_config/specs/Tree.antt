@@ -69,7 +69,7 @@ are_distinct [] = true
 are_distinct (text ∷ texts) = not (is_among text texts) && are_distinct texts
 
 -- what an answer says of what a value gives: it gives no such thing where it is `Refused`, and want of memory says nothing
-abbrev pub Gives : {A : Type 0} → Result A Misfit → Option A → Type 0
-Gives (Ok read) found = found ≡ Some read
-Gives (Err misfit.Refused) found = found ≡ None
-Gives (Err misfit.Memory) found = ⊤
+abbrev pub GivesPart : {A : Type 0} → Result A Misfit → Option A → Type 0
+GivesPart (Ok read) found = found ≡ Some read
+GivesPart (Err misfit.Refused) found = found ≡ None
+GivesPart (Err misfit.Memory) found = ⊤

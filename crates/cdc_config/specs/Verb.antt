@@ -24,5 +24,5 @@ abbrev pub verbs : List Verb
 verbs = verb.Print ∷ verb.Run ∷ verb.List ∷ verb.Serve ∷ verb.Follow ∷ verb.Split ∷ verb.Purge ∷ verb.Seek ∷ verb.Drill ∷ verb.Help ∷ verb.Version ∷ []
 
 -- the verb that a word spells, byte for byte
-abbrev pub verb_from : List ℕ → Option Verb
-verb_from word = find (λ v. pointwise nat_eq word (spelling v)) verbs
+abbrev pub verb_spelled : List ℕ → Option Verb
+verb_spelled word = find (λ v. pointwise nat_eq word (spelling v)) verbs

@@ -12,7 +12,7 @@ use Rattle.cdc_config.specs.declared.words.Target.{Target}
 use Rattle.cdc_config.specs.declared.words.Drill.{Drill}
 use Rattle.cdc_config.specs.Number.{number_from}
 use Rattle.cdc_config.specs.Options.{pace_from, sessions_from}
-use Rattle.cdc_config.specs.Verb.{verb_from}
+use Rattle.cdc_config.specs.Verb.{verb_spelled}
 
 -- a word that may name a file: not empty, and not beginning with `-`
 abbrev pub is_path_word : List ℕ → Bool
@@ -57,14 +57,14 @@ if_drill seed nodes count =
     if nat_le 1 nodes && nat_le nodes 256 && nat_le count 100000 then Some (record { seed = seed; nodes = nodes; count = count }) else None
 
 -- SEED NODES COUNT
-abbrev pub numbers_from : List ℕ → List ℕ → List ℕ → Option Drill
-numbers_from seed nodes count =
+abbrev pub drill_numbers : List ℕ → List ℕ → List ℕ → Option Drill
+drill_numbers seed nodes count =
     option_and_then (λ s. option_and_then (λ n. option_and_then (λ c. if_drill s n c) (number_from count)) (number_from nodes)) (number_from seed)
 
 -- SEED NODES COUNT [--order N] [--threads]
 abbrev pub drill_from : List (List ℕ) → Option Command
 drill_from (seed ∷ nodes ∷ count ∷ options) =
-    option_and_then (λ drill. option_map (λ pace. command.Drill drill.seed drill.nodes drill.count pace.order pace.threads) (pace_from options)) (numbers_from seed nodes count)
+    option_and_then (λ drill. option_map (λ pace. command.Drill drill.seed drill.nodes drill.count pace.order pace.threads) (pace_from options)) (drill_numbers seed nodes count)
 drill_from _ = None
 
 -- a word that stands alone
@@ -89,7 +89,7 @@ command_by verb.Version words = alone command.Version words
 -- the command that the words are; none where they are none
 abbrev pub command_from : List (List ℕ) → Option Command
 command_from [] = None
-command_from (word ∷ words) = option_and_then (λ v. command_by v words) (verb_from word)
+command_from (word ∷ words) = option_and_then (λ v. command_by v words) (verb_spelled word)
 
 -- what an answer says of what words are: they are no such thing exactly where it is `Usage`, and want of memory says no more
 abbrev pub Reads : {A : Type 0} → Result A Refusal → Option A → Type 0

@@ -6,7 +6,7 @@ ghost use Rattle.cdc_config.specs.Judging.{AreExtras, AreSized, AreSizesIn, Give
 ghost use Rattle.cdc_config.specs.Limits.{AreSizes, IsSplit};
 ghost use Rattle.cdc_config.specs.declared.command.ConfigKey.{ConfigKey};
 ghost use Rattle.cdc_config.specs.Plan.{ArePaths, IsPlanIn, IsPlanOf, Judges, JudgesText, refusal_at, refused_key, tested_keys, tree_from};
-ghost use Rattle.cdc_config.specs.Tree.{Gives};
+ghost use Rattle.cdc_config.specs.Tree.{GivesPart};
 
 use crate::command::{ConfigKey, Refusal};
 use crate::filing::names_of;
@@ -103,7 +103,7 @@ struct Extras {
 fn split_in(alloc: Global, root: &Value, paths: &Paths) -> Result<Option<SplitPlan>, Misfit>
     requires paths { ArePaths (view root.now) paths.now }
     requires sized { AreSized paths.now }
-    ensures split { Gives result (split_given (view root.now)) }
+    ensures split { GivesPart result (split_given (view root.now)) }
     ensures limits { IfOk result (IsSplit (length paths.now.out_folders)) }
 {
     let taken = taken_of(alloc, paths)?;

@@ -8,14 +8,14 @@ ghost use Rattle.toml.specs.View.{view};
 ghost use Rattle.cdc_config.specs.Keys as keys;
 ghost use Rattle.cdc_config.specs.Limits.{IsSplitInto, IsWithin};
 ghost use Rattle.cdc_config.specs.Tree as tree;
-ghost use Rattle.cdc_config.specs.Tree.{Gives};
+ghost use Rattle.cdc_config.specs.Tree.{GivesPart};
 
 use crate::misfit::Misfit;
 use crate::parts::{OutTable, path_at};
-use crate::plan::{SplitPlan, TextLists, User, UserList};
+use crate::plan::{SplitPlan, TextLists};
 use crate::shape::Shape;
 use crate::tree::{are_distinct, array_of, is_among, value_at, whole_number};
-use cdc_base::{Items, Memory, Rename, RenameList, Text, TextList};
+use cdc_base::{Items, Memory, Rename, RenameList, Text, TextList, User, UserList};
 use std::alloc::Global;
 use toml::Value;
 
@@ -68,7 +68,7 @@ pub fn window_of(root: &Value) -> Option<u64>
 /// The files of each node.
 #[tactic(auto, unfolding(crate::specs::Keys::nodes_from))]
 pub fn nodes_of(alloc: Global, root: &Value) -> Result<TextLists, Misfit>
-    ensures nodes { Gives result (keys.nodes_from (view root.now)) }
+    ensures nodes { GivesPart result (keys.nodes_from (view root.now)) }
     ensures size { IfOk result (λ nodes. IsWithin 1 256 (length nodes)) }
 {
     match value_at(root, "node") {
@@ -108,7 +108,7 @@ fn addresses_of(alloc: Global, outs: &[OutTable]) -> Result<TextList, Memory>
 
 // 1 to 4 outs.
 fn out_tables(alloc: Global, root: &Value) -> Result<Items<OutTable>, Misfit>
-    ensures outs { Gives result (keys.part_at (tree.array_of 1 4 keys.out_from) (codes "out") (view root.now)) }
+    ensures outs { GivesPart result (keys.part_at (tree.array_of 1 4 keys.out_from) (codes "out") (view root.now)) }
     ensures size { IfOk result (λ outs. IsWithin 1 4 (length outs)) }
 {
     match value_at(root, "out") {
@@ -134,7 +134,7 @@ pub fn outs_of(alloc: Global, root: &Value) -> Result<Outs, Misfit>
 
 // The folder of a task.
 fn folder_of(alloc: Global, root: &Value) -> Result<Text, Misfit>
-    ensures { Gives result (keys.part_at keys.folder_from (codes "task") (view root.now)) }
+    ensures { GivesPart result (keys.part_at keys.folder_from (codes "task") (view root.now)) }
 {
     match value_at(root, "task") {
         Some(task) if Shape::Task.fits(task) => path_at(alloc, task, "folder"),
@@ -145,7 +145,7 @@ fn folder_of(alloc: Global, root: &Value) -> Result<Text, Misfit>
 /// The folder of the task, which isn't taken.
 #[tactic(auto, unfolding(crate::specs::Keys::task_from))]
 pub fn task_of(alloc: Global, root: &Value, taken: &[Text]) -> Result<Text, Misfit>
-    ensures { Gives result (keys.task_from taken.now (view root.now)) }
+    ensures { GivesPart result (keys.task_from taken.now (view root.now)) }
 {
     let folder = folder_of(alloc, root)?;
     if is_among(&folder, taken) {
@@ -156,7 +156,7 @@ pub fn task_of(alloc: Global, root: &Value, taken: &[Text]) -> Result<Text, Misf
 
 /// At most 65,536 rules, or none where there is no such key.
 pub fn rules_of(alloc: Global, root: &Value) -> Result<RenameList, Misfit>
-    ensures { Gives result (keys.listed (tree.array_of 0 65536 keys.rule_from) (get (codes "table") (view root.now))) }
+    ensures { GivesPart result (keys.listed (tree.array_of 0 65536 keys.rule_from) (get (codes "table") (view root.now))) }
 {
     match value_at(root, "table") {
         Some(rules) => array_of::<Rename>(alloc, rules, 0, RULES_MAX),
@@ -167,7 +167,7 @@ pub fn rules_of(alloc: Global, root: &Value) -> Result<RenameList, Misfit>
 /// The users, with distinct names; none where there is no such key.
 #[tactic(auto, unfolding(crate::specs::Keys::users_from))]
 pub fn users_of(alloc: Global, root: &Value) -> Result<UserList, Misfit>
-    ensures users { Gives result (keys.users_from (view root.now)) }
+    ensures users { GivesPart result (keys.users_from (view root.now)) }
     ensures size { IfOk result (λ users. length users ≤ 256) }
 {
     let users = user_tables(alloc, root)?;
@@ -179,7 +179,7 @@ pub fn users_of(alloc: Global, root: &Value) -> Result<UserList, Misfit>
 
 // The users, or none where there is no such key.
 fn user_tables(alloc: Global, root: &Value) -> Result<UserList, Misfit>
-    ensures users { Gives result (keys.listed (tree.array_of 1 256 keys.user_from) (get (codes "user") (view root.now))) }
+    ensures users { GivesPart result (keys.listed (tree.array_of 1 256 keys.user_from) (get (codes "user") (view root.now))) }
     ensures size { IfOk result (λ users. length users ≤ 256) }
 {
     match value_at(root, "user") {
@@ -235,7 +235,7 @@ fn are_streams(folders: &[Text], taken: &[Text]) -> bool
 
 // 2 to 16 folders, no two equal, that aren't taken.
 fn stream_folders(alloc: Global, value: &Value, taken: &[Text]) -> Result<TextList, Misfit>
-    ensures folders { Gives result (keys.stream_folders taken.now (view value.now)) }
+    ensures folders { GivesPart result (keys.stream_folders taken.now (view value.now)) }
     ensures size { IfOk result (λ folders. IsWithin 2 16 (length folders)) }
 {
     let folders = array_of::<Text>(alloc, value, STREAMS_MIN, STREAMS_MAX)?;
@@ -257,7 +257,7 @@ fn from_of(value: &Value, outs: u32) -> Option<u32>
 
 // The table of a split.
 fn split_table(alloc: Global, value: &Value, outs: u32, taken: &[Text]) -> Result<SplitPlan, Misfit>
-    ensures split { Gives result (keys.split_table outs taken.now (view value.now)) }
+    ensures split { GivesPart result (keys.split_table outs taken.now (view value.now)) }
     ensures size { IfOk result (IsSplitInto outs) }
 {
     if !Shape::Split.fits(value) {
@@ -283,7 +283,7 @@ pub fn split_of(
     outs: u32,
     taken: &[Text],
 ) -> Result<Option<SplitPlan>, Misfit>
-    ensures split { Gives result (keys.split_from outs taken.now (view root.now)) }
+    ensures split { GivesPart result (keys.split_from outs taken.now (view root.now)) }
     ensures size { IfOk result (λ split. ForSome split (IsSplitInto outs)) }
 {
     match value_at(root, "split") {

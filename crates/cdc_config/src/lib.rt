@@ -22,6 +22,6 @@ mod words;
 
 pub use command::{Command, ConfigKey, Refusal};
 pub use judging::plan_of;
-pub use plan::{Paths, Plan, SplitPlan, TextLists, User, UserList};
+pub use plan::{Paths, Plan, SplitPlan, TextLists};
 pub use texts::paths;
 pub use words::command_of;

@@ -5,13 +5,12 @@ ghost use Rattle.std.specs.List.{list_all};
 ghost use Rattle.toml.specs.View.{view};
 ghost use Rattle.cdc_config.specs.Keys as keys;
 ghost use Rattle.cdc_config.specs.Tree as tree;
-ghost use Rattle.cdc_config.specs.Tree.{Gives};
+ghost use Rattle.cdc_config.specs.Tree.{GivesPart};
 
 use crate::misfit::Misfit;
-use crate::plan::User;
 use crate::shape::Shape;
 use crate::tree::{Part, array_of, sized_text, value_at};
-use cdc_base::{Rename, Text, TextList};
+use cdc_base::{Rename, Text, TextList, User};
 use std::alloc::Global;
 use toml::Value;
 
@@ -45,7 +44,7 @@ pub struct OutTable {
 
 /// The text at a key, which isn't empty.
 pub fn path_at(alloc: Global, value: &Value, key: &str) -> Result<Text, Misfit>
-    ensures { Gives result (keys.part_at tree.path_text key.now (view value.now)) }
+    ensures { GivesPart result (keys.part_at tree.path_text key.now (view value.now)) }
 {
     match value_at(value, key) {
         Some(path) => Text::read(alloc, path),
@@ -55,7 +54,7 @@ pub fn path_at(alloc: Global, value: &Value, key: &str) -> Result<Text, Misfit>
 
 // The address of an out, empty where it has none.
 fn listen_of(alloc: Global, listen: Option<&Value>) -> Result<Text, Misfit>
-    ensures { Gives result (keys.listen_from (option_map (λ v. view v.now) listen.entry)) }
+    ensures { GivesPart result (keys.listen_from (option_map (λ v. view v.now) listen.entry)) }
 {
     match listen {
         Some(address) => Text::read(alloc, address),
@@ -85,7 +84,7 @@ pub struct TableNames {
 
 // A name of 1 to 64 bytes at a key.
 fn name_at(alloc: Global, value: &Value, key: &str) -> Result<Text, Misfit>
-    ensures { Gives result (keys.part_at (tree.sized_text 1 64) key.now (view value.now)) }
+    ensures { GivesPart result (keys.part_at (tree.sized_text 1 64) key.now (view value.now)) }
 {
     match value_at(value, key) {
         Some(name) => sized_text(alloc, name, 1, 64),
@@ -95,7 +94,7 @@ fn name_at(alloc: Global, value: &Value, key: &str) -> Result<Text, Misfit>
 
 // The names of a table at two keys.
 fn table_at(alloc: Global, value: &Value, db: &str, table: &str) -> Result<TableNames, Misfit>
-    ensures { Gives result (keys.table_at db.now table.now (view value.now)) }
+    ensures { GivesPart result (keys.table_at db.now table.now (view value.now)) }
 {
     let db = name_at(alloc, value, db)?;
     let table = name_at(alloc, value, table)?;
@@ -129,7 +128,7 @@ fn has_no_zero(name: &[u8]) -> bool
 
 // The name of a user.
 fn user_name(alloc: Global, value: &Value) -> Result<Text, Misfit>
-    ensures { Gives result (keys.user_name (view value.now)) }
+    ensures { GivesPart result (keys.user_name (view value.now)) }
 {
     let name = sized_text(alloc, value, 1, 32)?;
     if has_no_zero(name.bytes()) {

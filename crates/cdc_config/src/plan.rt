@@ -2,22 +2,11 @@
 
 ghost use Rattle.cdc_config.specs.Limits.{AreListed, AreSizes, IsSplit};
 
-use cdc_base::{Items, Text, TextList};
+use cdc_base::{Items, Text, TextList, UserList};
 use cdc_rename::Names;
 
 /// A list of lists of texts.
 pub type TextLists = Items<TextList>;
-
-/// Someone who may read what is served.
-#[derive(Debug, Drop)]
-pub struct User {
-    pub name: Text,
-    /// What SHA-1 makes of SHA-1 of the password; none where the password is empty.
-    pub hash: Option<[u8; 20]>,
-}
-
-/// A list of users.
-pub type UserList = Items<User>;
 
 /// An out whose stream is split, and where its parts go.
 #[derive(Debug, Drop)]

@@ -5,7 +5,7 @@ ghost use Rattle.toml.specs.Data.{Data, get};
 ghost use Rattle.toml.specs.View.{view, items_view};
 ghost use Rattle.cdc_config.specs.Limits.{IsWithin};
 ghost use Rattle.cdc_config.specs.Tree as tree;
-ghost use Rattle.cdc_config.specs.Tree.{Gives, each};
+ghost use Rattle.cdc_config.specs.Tree.{GivesPart, each};
 
 use crate::misfit::Misfit;
 use cdc_base::{Items, Text};
@@ -17,7 +17,7 @@ pub trait Part: Sized + Drop {
     ghost from: { Data → Option Self };
 
     fn read(alloc: Global, value: &Value) -> Result<Self, Misfit>
-        ensures { Gives result (from (view value.now)) };
+        ensures { GivesPart result (from (view value.now)) };
 }
 
 /// The value at a key of a table.
@@ -29,7 +29,7 @@ pub fn value_at<'a>(value: &'a Value, key: &str) -> Option<&'a Value>
 
 // What each item is read as.
 fn each_of<T: Part>(alloc: Global, values: &[Value]) -> Result<Items<T>, Misfit>
-    ensures { Gives result (each T.from (items_view values.now)) }
+    ensures { GivesPart result (each T.from (items_view values.now)) }
 {
     let mut parts = Items::new(alloc);
     for value in values {
@@ -45,7 +45,7 @@ pub fn array_of<T: Part>(
     least: usize,
     most: usize,
 ) -> Result<Items<T>, Misfit>
-    ensures parts { Gives result (tree.array_of least most T.from (view value.now)) }
+    ensures parts { GivesPart result (tree.array_of least most T.from (view value.now)) }
     ensures size { IfOk result (λ parts. IsWithin least most (length parts)) }
 {
     let Some(values) = value.as_array() else {
@@ -72,7 +72,7 @@ impl Part for Text {
 
 /// A text of so many bytes.
 pub fn sized_text(alloc: Global, value: &Value, least: usize, most: usize) -> Result<Text, Misfit>
-    ensures text { Gives result (tree.sized_text least most (view value.now)) }
+    ensures text { GivesPart result (tree.sized_text least most (view value.now)) }
     ensures size { IfOk result (λ text. IsWithin least most (length text)) }
 {
     match value.as_str() {

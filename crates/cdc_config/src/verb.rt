@@ -1,7 +1,7 @@
 //! The first word of a command.
 
 ghost use Rattle.std.specs.Prelude.{◌≡◌};
-ghost use Rattle.cdc_config.specs.Verb.{verb_from};
+ghost use Rattle.cdc_config.specs.Verb.{verb_spelled};
 
 /// What a command does, by its first word.
 #[derive(Clone, Copy, Debug, PartialEq, Eq)]
@@ -21,7 +21,7 @@ pub enum Verb {
 
 /// The verb that a word spells; none where it spells none.
 pub fn verb_of(word: &[u8]) -> Option<Verb>
-    ensures { result ≡ verb_from word.now }
+    ensures { result ≡ verb_spelled word.now }
 {
     if word == b"print".as_slice() {
         Some(Verb::Print)

@@ -167,7 +167,7 @@ fn drill_within(seed: u64, nodes: u64, count: u64) -> Option<Drill>
 
 // `SEED NODES COUNT`
 fn numbers_of(seed: &Text, nodes: &Text, count: &Text) -> Option<Drill>
-    ensures { result ≡ spec.numbers_from seed.now nodes.now count.now }
+    ensures { result ≡ spec.drill_numbers seed.now nodes.now count.now }
 {
     drill_within(number_of(seed)?, number_of(nodes)?, number_of(count)?)
 }

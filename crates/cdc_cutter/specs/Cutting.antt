@@ -25,7 +25,7 @@ pub record Cutting : Type 0 where
   pub state : CutterState
   pub rest : List ℕ
 
--- a cutter as clauses see it: its bytes are those of the frozen front and of the growing tail
+-- a cutter, seen so
 abbrev pub cutter_seen : Inside → Cutting
 cutter_seen c = record { file = c.place.file; at = c.place.at; checksum = c.checksum; state = c.state; rest = pending_bytes c.pending }
 
@@ -169,7 +169,7 @@ TakesAtStart Behind bytes old new = ⊥
 TakesAtStart (Faulty fault) bytes old new =
     (4 ≤ length bytes) × (take 4 bytes ≢ magic) × (fault ≡ BadMagic) × (old.at ≡ 0) × (new ≡ record old { rest = bytes; state = Faulty BadMagic })
 
--- a cutter with one piece more, in each state
+-- the same where it is: behind the magic the piece is appended
 abbrev pub Takes : CutterState → List ℕ → Cutting → Cutting → Type 0
 Takes Start piece old new = TakesAtStart new.state (old.rest ++ piece) old new
 Takes First piece old new = new ≡ record old { rest = old.rest ++ piece }

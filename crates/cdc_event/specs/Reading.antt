@@ -67,14 +67,14 @@ format_at bytes =
 abbrev pub query_of : ℕ → ℕ → List ℕ → Body
 query_of status db bytes = Query (number_of (slice_range bytes 0 4)) (number_of (slice_range bytes 4 8)) (number_of (slice_range bytes 9 11)) (slice_range bytes 13 (13 + status)) (slice_range bytes (13 + status) (13 + status + db)) (slice_range bytes (13 + status + db + 1) (length bytes))
 
--- the query with status variables and a database of these lengths
+-- with the byte behind both
 abbrev pub query_with : ℕ → ℕ → List ℕ → Option Body
 query_with status db bytes =
     guard (nat_lt (13 + status + db) (length bytes))
     (guard (slice_index bytes (13 + status + db) == 0)
     (Some (query_of status db bytes)))
 
--- the query that these bytes are, by the lengths that it names
+-- type 2, by the lengths that its fixed fields tell
 unfoldable pub query_at : List ℕ → Option Body
 query_at bytes = guard (nat_le 13 (length bytes)) (query_with (number_of (slice_range bytes 11 13)) (slice_index bytes 8) bytes)
 
@@ -94,21 +94,21 @@ rows_query_at bytes = guard (nat_le 1 (length bytes)) (Some (RowsQuery (slice_in
 abbrev pub table_map_of : ℕ → ℕ → List ℕ → Body
 table_map_of db name bytes = TableMap (number_of (slice_range bytes 0 6)) (number_of (slice_range bytes 6 8)) (slice_range bytes 9 (9 + db)) (slice_range bytes (9 + db + 2) (9 + db + 2 + name)) (slice_range bytes (9 + db + 2 + name + 1) (length bytes))
 
--- the table map with a database and a name of these lengths
+-- with the byte behind the table's name
 abbrev pub table_map_with : ℕ → ℕ → List ℕ → Option Body
 table_map_with db name bytes =
     guard (nat_lt (9 + db + 2 + name) (length bytes))
     (guard (slice_index bytes (9 + db + 2 + name) == 0)
     (Some (table_map_of db name bytes)))
 
--- the table map with a database of this length, by the length of its name
+-- with the byte behind the database's name, and the length of the table's
 abbrev pub table_map_named : ℕ → List ℕ → Option Body
 table_map_named db bytes =
     guard (nat_lt (9 + db + 1) (length bytes))
     (guard (slice_index bytes (9 + db) == 0)
     (table_map_with db (slice_index bytes (9 + db + 1)) bytes))
 
--- the table map that these bytes are, by the lengths that it names
+-- type 19, by the length that its fixed fields tell
 unfoldable pub table_map_at : List ℕ → Option Body
 table_map_at bytes = guard (nat_le 9 (length bytes)) (table_map_named (slice_index bytes 8) bytes)
 
@@ -116,7 +116,7 @@ table_map_at bytes = guard (nat_le 9 (length bytes)) (table_map_named (slice_ind
 abbrev pub prepare_of : ℕ → List ℕ → Body
 prepare_of gtrid bytes = XaPrepare (slice_index bytes 0) record { gtrid = slice_range bytes 13 (13 + gtrid); bqual = slice_range bytes (13 + gtrid) (length bytes); format = number_of (slice_range bytes 1 5) }
 
--- the prepare with ids of these lengths
+-- with nothing behind its ids, each of at most 64 bytes
 abbrev pub prepare_with : ℕ → ℕ → List ℕ → Option Body
 prepare_with gtrid bqual bytes =
     guard (length bytes == 13 + gtrid + bqual)
@@ -124,7 +124,7 @@ prepare_with gtrid bqual bytes =
     (guard (nat_le bqual 64)
     (Some (prepare_of gtrid bytes))))
 
--- the prepare that these bytes are, by the lengths that it names
+-- type 38, by the lengths that its fixed fields tell
 unfoldable pub prepare_at : List ℕ → Option Body
 prepare_at bytes = guard (nat_le 13 (length bytes)) (prepare_with (number_of (slice_range bytes 5 9)) (number_of (slice_range bytes 9 13)) bytes)
 

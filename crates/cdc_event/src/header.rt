@@ -35,10 +35,10 @@ pub struct Header {
 /// The most bytes that an event of a node's log has.
 pub const LENGTH_MAX: u32 = 1 << 27;
 
-/// The version of the binary log's format.
+// The version of the binary log's format.
 pub(crate) const FORMAT_VERSION: u16 = 4;
 
-/// The bytes of a checksum.
+// The bytes of a checksum.
 const CHECKSUM_LENGTH: u32 = 4;
 
 /// The header that 19 bytes spell. Any 19 bytes spell one, and no other has these bytes.

@@ -4,46 +4,68 @@ ghost use Rattle.std.specs.Prelude.{◌≡◌, ◌≤◌, ◌<◌, ◌*◌, ◌/
 ghost use Rattle.cdc_files.specs.Share.{shares, shares_fit};
 
 use crate::counted::counted;
-use cdc_base::{Memory, Place};
+use crate::opened::{Opened, open_regular};
+use cdc_base::{Memory, Place, Text};
 use cdc_outside::{Failed, Source, highest_place, lowest_place};
 use std::alloc::Global;
-use std::io::{Read, Seek, SeekFrom};
+use std::fs::{Files, OpenFile};
+use std::os::unix::fs::FileExt;
 
 /// The most bytes that all files of a source have together.
 const MOST_BYTES: u64 = 1 << 54;
 
-/// Opened files, counted from 1. Each may have at most its share of 2^54 bytes: a longer one fails when its
-/// length is asked for. Where one of them couldn't be opened, each call fails.
+/// Regular files, counted from 1, that are opened once and kept open. Each may have at most its share of 2^54
+/// bytes: a longer one fails when its length is asked for. One that becomes shorter than it was seen fails too.
+/// Where one of them couldn't be opened, each call fails.
 #[derive(Drop)]
 pub struct FileSource<F> {
-    files: Vec<Option<F>>,
+    files: Vec<Option<Opened<F>>>,
     all_open: bool,
-    /// The file that was read last and the place where it stands, so that reading on needs no seek.
-    stands: Option<Place>,
     lowest: Option<Place>,
     highest: Option<Place>,
     faults: u64,
     ghost few: { length files.items < 2 ^ 32 },
 }
 
-impl<F: Read + Seek + Drop> FileSource<F> {
-    /// These files, with none in the place of one that couldn't be opened.
-    pub fn new(files: Vec<Option<F>>) -> FileSource<F>
-        requires { length files.items < 2 ^ 32 }
-        ensures sizes { ⟦<FileSource<F> as Source>⟧.sizes result ≡ shares (length files.items) }
-        ensures lowest { ⟦<FileSource<F> as Source>⟧.lowest result ≡ None }
-        ensures highest { ⟦<FileSource<F> as Source>⟧.highest result ≡ None }
-        ensures faults { ⟦<FileSource<F> as Source>⟧.faults result ≡ 0 }
+impl<F: FileExt + OpenFile + Drop> FileSource<F> {
+    /// The files at these paths. Only regular files are opened.
+    pub fn open<R: AllocGlobal + Files<File = F>>(
+        rt: &R,
+        paths: &[Text],
+    ) -> Result<FileSource<F>, Memory>
+        requires { length paths.now < 2 ^ 32 }
+        ensures sizes { IfOk result (λ source. ⟦<FileSource<F> as Source>⟧.sizes source ≡ shares (length paths.now)) }
+        ensures lowest { IfOk result (λ source. ⟦<FileSource<F> as Source>⟧.lowest source ≡ None) }
+        ensures highest { IfOk result (λ source. ⟦<FileSource<F> as Source>⟧.highest source ≡ None) }
+        ensures faults { IfOk result (λ source. ⟦<FileSource<F> as Source>⟧.faults source ≡ 0) }
     {
-        let all_open = files.iter().all(|file| file.is_some());
-        FileSource {
-            files,
+        let mut files = Vec::with_capacity(rt.alloc(), paths.len())?;
+        for path in paths {
+            files.push(open_regular(rt, path.as_str()))?;
+        }
+        FileSource::new(rt.alloc(), files)
+    }
+
+    /// These files, with none in the place of one that couldn't be opened.
+    pub fn new(alloc: Global, files: Vec<Option<F>>) -> Result<FileSource<F>, Memory>
+        requires { length files.items < 2 ^ 32 }
+        ensures sizes { IfOk result (λ source. ⟦<FileSource<F> as Source>⟧.sizes source ≡ shares (length files.items)) }
+        ensures lowest { IfOk result (λ source. ⟦<FileSource<F> as Source>⟧.lowest source ≡ None) }
+        ensures highest { IfOk result (λ source. ⟦<FileSource<F> as Source>⟧.highest source ≡ None) }
+        ensures faults { IfOk result (λ source. ⟦<FileSource<F> as Source>⟧.faults source ≡ 0) }
+    {
+        let mut opened = Vec::with_capacity(alloc, files.len())?;
+        for file in files {
+            opened.push(file.map(Opened::new))?;
+        }
+        let all_open = opened.iter().all(|file| file.is_some());
+        Ok(FileSource {
+            files: opened,
             all_open,
-            stands: None,
             lowest: None,
             highest: None,
             faults: 0,
-        }
+        })
     }
 
     /// One file, or none where it couldn't be opened.
@@ -55,7 +77,7 @@ impl<F: Read + Seek + Drop> FileSource<F> {
     {
         let mut files = Vec::new(alloc);
         files.push(file)?;
-        Ok(FileSource::new(files))
+        FileSource::new(alloc, files)
     }
 
     /// How many calls failed.
@@ -87,8 +109,7 @@ impl<F: Read + Seek + Drop> FileSource<F> {
         ensures faults { self.new.faults ≡ self.old.faults }
     {
         let share = MOST_BYTES / self.files.len() as u64;
-        self.stands = None;
-        let bytes = end_of(&mut self.files[file as usize - 1])?;
+        let bytes = length_of(&mut self.files[file as usize - 1])?;
         if self.all_open && bytes <= share {
             Some(bytes)
         } else {
@@ -96,7 +117,7 @@ impl<F: Read + Seek + Drop> FileSource<F> {
         }
     }
 
-    /// Reads from a place on, and keeps where the file stands then.
+    /// Reads from a place on.
     fn read(&mut self, place: Place, into: &mut [u8]) -> Option<usize>
         requires first { 1 ≤ place.file }
         requires last { place.file ≤ length self.old.files.items }
@@ -106,48 +127,30 @@ impl<F: Read + Seek + Drop> FileSource<F> {
         ensures highest { self.new.highest ≡ self.old.highest }
         ensures faults { self.new.faults ≡ self.old.faults }
     {
-        let goes_on = self.stands == Some(place);
-        self.stands = None;
         if !self.all_open {
             return None;
         }
-        let read = read_from(
-            &mut self.files[place.file as usize - 1],
-            place.at,
-            goes_on,
-            into,
-        )?;
-        self.stands = Some(Place {
-            file: place.file,
-            at: place.at.saturating_add(read as u64),
-        });
-        Some(read)
+        read_of(&mut self.files[place.file as usize - 1], place.at, into)
     }
 }
 
 /// How many bytes a file has.
-fn end_of<F: Seek>(file: &mut Option<F>) -> Option<u64> {
-    let file = file.as_mut()?;
-    file.seek(SeekFrom::End(0)).ok()
+fn length_of<F: FileExt + OpenFile + Drop>(file: &mut Option<Opened<F>>) -> Option<u64> {
+    file.as_mut()?.length()
 }
 
-/// Reads from the byte `at` on, where the file stands already or after a seek.
-fn read_from<F: Read + Seek>(
-    file: &mut Option<F>,
+/// Reads of a file from the byte `at` on.
+fn read_of<F: FileExt + OpenFile + Drop>(
+    file: &mut Option<Opened<F>>,
     at: u64,
-    goes_on: bool,
     into: &mut [u8],
 ) -> Option<usize>
     ensures { IfSome result (λ read. read ≤ length into.old) }
 {
-    let file = file.as_mut()?;
-    if !goes_on {
-        let _at = file.seek(SeekFrom::Start(at)).ok()?;
-    }
-    file.read(into).ok()
+    file.as_mut()?.read(at, into)
 }
 
-impl<F: Read + Seek + Drop> Source for FileSource<F> {
+impl<F: FileExt + OpenFile + Drop> Source for FileSource<F> {
     ghost tells = { false };
 
     ghost held = { λ _. [] };

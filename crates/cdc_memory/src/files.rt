@@ -90,7 +90,7 @@ fn shared(alloc: Global, files: &[Blob]) -> Result<Vec<Blob>, Memory>
 
 /// Puts as many bytes at the front of `into` as it takes and a file of these bytes still has behind `at`.
 pub fn read_bytes(bytes: &[u8], at: u64, into: &mut [u8]) -> usize
-    ensures read { Reads bytes.now at into.new result }
+    ensures read { ReadsFile bytes.now at into.new result }
     ensures full { result ≡ min (length into.old) (length bytes.now - at) }
 {
     let start = at.min(bytes.len() as u64) as usize;

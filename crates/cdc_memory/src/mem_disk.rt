@@ -4,7 +4,7 @@ ghost use Rattle.std.specs.Prelude.{◌≡◌, ℕ, ◌+◌, ◌-◌, ◌⊎◌,
 ghost use Rattle.cdc_outside.specs.declared.disk_file.DiskFile.{DiskFile};
 ghost use Rattle.cdc_outside.specs.Count.{RisesOnErr};
 ghost use Rattle.cdc_outside.specs.Disk.{Image, Wrote, CutTo, IsDurable, Begins, Elapses, with_file, overwritten};
-ghost use Rattle.cdc_outside.specs.Source.{Reads};
+ghost use Rattle.cdc_outside.specs.Source.{ReadsFile};
 ghost use Rattle.cdc_memory.specs.Calls.{at_first, Counts};
 ghost use Rattle.cdc_memory.specs.DiskFiles.{place_of, content_of};
 ghost use Rattle.cdc_memory.specs.declared.mem_file.MemFile.{MemFile};
@@ -161,7 +161,7 @@ impl Disk for MemDisk {
     }
 
     fn read_at(&mut self, file: DiskFile, at: u64, into: &mut [u8]) -> Result<usize, Failed>
-        ensures read { IfOk result (λ read. Reads ((held_by self.old).seen file) at into.new read) }
+        ensures read { IfOk result (λ read. ReadsFile ((held_by self.old).seen file) at into.new read) }
         ensures full { IfOk result (λ read. read ≡ min (length into.old) (length ((held_by self.old).seen file) - at)) }
         ensures same { IsSameDisk self.old self.new }
         ensures time { GoesOn self.old self.new }

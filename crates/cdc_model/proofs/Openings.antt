@@ -28,7 +28,7 @@ find_kept {X} test out x xs false is fails behind =
     ap (λ (b : Bool). find test (cond (not b) (x ∷ filter (λ y. not (out y)) xs) (filter (λ y. not (out y)) xs))) is
     ∙ ap (λ (o : Option X). cond (test x) (Some x) o) behind
 
--- what is left out doesn't pass, so the search finds what it found
+-- what is left_by out doesn't pass, so the search finds what it found
 find_without_other : {X : Type 0} (test out : X → Bool) → ((x : X) → out x ≡ true → test x ≡ false) → (xs : List X)
     → find test (filter (λ y. not (out y)) xs) ≡ find test xs
 find_without_other test out apart [] = refl
@@ -43,7 +43,7 @@ find_left_at test out x xs false is fails behind =
     ap (λ (b : Bool). find test (cond (not b) (x ∷ filter (λ y. not (out y)) xs) (filter (λ y. not (out y)) xs))) is
     ∙ find_at test x (filter (λ y. not (out y)) xs) false (fails refl) ∙ behind
 
--- all that passes is left out, so the search finds none
+-- all that passes is left_by out, so the search finds none
 find_without_same : {X : Type 0} (test out : X → Bool) → ((x : X) → out x ≡ false → test x ≡ false) → (xs : List X)
     → find test (filter (λ y. not (out y)) xs) ≡ None
 find_without_same test out all [] = refl

@@ -40,7 +40,7 @@ pub record LogGrows (old new : NodeLog) : Type 0 where
   pub same_start : new.start ≡ old.start
   pub front : IsFront (sound_entries old.start old.entries) (sound_entries new.start new.entries)
 
--- the logs of all nodes have gone on
+-- the logs of all nodes go on, node by node
 abbrev pub LogsGrow : List NodeLog → List NodeLog → Type 0
 LogsGrow olds news = AllZip LogGrows olds news
 
@@ -91,12 +91,12 @@ abbrev pub SettledOrderGrows : Type 0
 SettledOrderGrows = (rules : List Rename) (count : ℕ) (last : Key) (olds news : List NodeLog) → LogsGrow olds news
     → TransactionsGrow rules count last olds news
 
--- law: the output files of more transactions continue those of fewer, and so does the one file
+-- the output files of more transactions continue those of fewer, and so does the one file
 pub record OutputOfMore (rules : List Rename) (rotation : ℕ) (txns more : List Transaction) : Type 0 where
   pub files : IsLogPrefix (files_of rules rotation txns) (files_of rules rotation more)
   pub whole : Continues (one_file txns) (one_file more)
 
--- law: the output of more transactions goes on with that of fewer
+-- law: transactions in front of others have output files that those of all continue
 abbrev pub OutputOfMoreGoesOn : Type 0
 OutputOfMoreGoesOn = (rules : List Rename) (rotation : ℕ) (txns more : List Transaction) → IsFront txns more → OutputOfMore rules rotation txns more
 

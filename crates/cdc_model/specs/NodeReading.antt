@@ -33,7 +33,7 @@ no_feed = record { branches = []; bound = 0 }
 abbrev pub feed_with : NodeFeed → CommittedBranch → NodeFeed
 feed_with feed branch = record { branches = feed.branches ++ branch ∷ []; bound = feed.bound }
 
--- a feed whose bound is told anew
+-- the same branches, and another bound
 abbrev pub feed_told : NodeFeed → ℕ → NodeFeed
 feed_told feed bound = record { branches = feed.branches; bound = bound }
 
@@ -41,33 +41,33 @@ feed_told feed bound = record { branches = feed.branches; bound = bound }
 abbrev pub FeedBegins : Type 0
 FeedBegins = (last : Key) (start : Start) (node : ℕ) → FeedsBehind last start node [] no_feed
 
--- law: a sound entry more leaves a feed one, and what the mark settles of before stays in front
+-- a sound entry more: the mark doesn't fall, what it settled stays in front, and a feed is one still
 pub record ReadsOn (last : Key) (start : Start) (node : ℕ) (history : List LogEntry) (entry : LogEntry) : Type 0 where
   pub low : low_behind start history ≤ low_behind start (entry ∷ history)
   pub settled : IsFront (node_settled last start node history) (node_settled last start node (entry ∷ history))
   pub feeds : (feed : NodeFeed) → FeedsBehind last start node history feed → FeedsBehind last start node (entry ∷ history) feed
 
--- law: one sound entry more leaves what a node settles a front, and its feed a feed
+-- law: each sound entry is read on so: the mark doesn't fall, and a feed stays one
 abbrev pub FeedReadsOn : Type 0
 FeedReadsOn = (last : Key) (start : Start) (node : ℕ) (history : List LogEntry) (entry : LogEntry)
     → entry_fault entry.kind (left_by start history) ≡ None → ReadsOn last start node history entry
 
--- law: the next settled branch goes on a feed, and the bound that was told doesn't settle it
+-- a branch more: the feed is one still, and the bound that was told doesn't settle that branch
 pub record GivesOn (mark : ℕ) (committed : List CommittedBranch) (feed : NodeFeed) (branch : CommittedBranch) : Type 0 where
   pub feeds : FeedsFrom mark committed (feed_with feed branch)
   pub grows : FeedGrows feed (feed_with feed branch)
 
--- law: a node gives its next settled branch, and its feed grows
+-- law: the next settled branch goes on a feed, and lies above the bound that was told
 abbrev pub FeedGives : Type 0
 FeedGives = (mark : ℕ) (committed : List CommittedBranch) (feed : NodeFeed) (branch : CommittedBranch)
     → FeedsFrom mark committed feed → IsFront (feed.branches ++ branch ∷ []) (settled_branches mark committed) → GivesOn mark committed feed branch
 
--- law: where all settled branches were given, the mark may be told
+-- the mark told: the feed is one still, and its bound didn't fall
 pub record TellsOn (mark : ℕ) (committed : List CommittedBranch) (feed : NodeFeed) : Type 0 where
   pub feeds : FeedsFrom mark committed (feed_told feed mark)
   pub grows : FeedGrows feed (feed_told feed mark)
 
--- law: a node that has given all it settles may tell its low-water mark
+-- law: where all settled branches were given, the mark may be told
 abbrev pub FeedTells : Type 0
 FeedTells = (mark : ℕ) (committed : List CommittedBranch) (feed : NodeFeed)
     → FeedsFrom mark committed feed → feed.branches ≡ settled_branches mark committed → TellsOn mark committed feed
@@ -76,18 +76,18 @@ FeedTells = (mark : ℕ) (committed : List CommittedBranch) (feed : NodeFeed)
 abbrev pub StandsBefore : CommittedBranch → CommittedBranch → Type 0
 StandsBefore a b = (key_order a.key b.key ≡ Less) ⊎ ((a.key ≡ b.key) × (a.entry < b.entry))
 
--- branches stand by key, and those of one key by entry
+-- branches of which each stands before all behind it
 abbrev pub StandInOrder : List CommittedBranch → Type 0
 StandInOrder [] = Unit {0}
 StandInOrder (branch ∷ branches) = AllByRecursion (StandsBefore branch) branches × StandInOrder branches
 
--- law: a node's settled branches stand by key and entry, each with a settled key above the last one
+-- branches in a node's order: by key and entry, each with a settled key above the last one
 pub record IsNodeOrder (last : Key) (mark : ℕ) (branches : List CommittedBranch) : Type 0 where
   pub ordered : StandInOrder branches
   pub settled : AllByRecursion (λ (branch : CommittedBranch). is_settled mark branch.key ≡ true) branches
   pub above : AllByRecursion (λ (branch : CommittedBranch). is_gt (key_order branch.key last) ≡ true) branches
 
--- law: what a node settles stands in order, settled, above the last key
+-- law: a node's settled branches stand by key and entry, each with a settled key above the last one
 abbrev pub NodeSettledInOrder : Type 0
 NodeSettledInOrder = (last : Key) (mark : ℕ) (start : Start) (node : ℕ) (history : List LogEntry)
     → IsNodeOrder last mark (settled_branches mark (committed_branches last start node history))

@@ -109,12 +109,12 @@ abbrev pub SoundNumbersEnd : Type 0
 SoundNumbersEnd = (last : Key) (start : Start) (node : ℕ) (history : List LogEntry) (number : ℕ)
     → IsRestartEntry last start node history number ↔ ((start.entry ≤ number) × (number ≤ latest_number last start node history))
 
--- law: there is a latest restart point, and it is the only one
+-- there is a latest restart point, and it is the only one
 pub record HasLatestPoint (last : Key) (from : RestartPoint) (node : ℕ) (entries : List LogEntry) : Type 0 where
   pub is : IsLatestPoint last from node entries (latest_point last from node entries)
   pub only : (other : RestartPoint) → IsLatestPoint last from node entries other → other ≡ latest_point last from node entries
 
--- law: there is a latest restart point, and one alone
+-- law: each reading has one latest restart point
 abbrev pub OneLatestPoint : Type 0
 OneLatestPoint = (last : Key) (from : RestartPoint) (node : ℕ) (entries : List LogEntry) → HasLatestPoint last from node entries
 
@@ -157,7 +157,7 @@ RestartPlaceReadsTheRest = (last : Key) (point : RestartPoint) (node : ℕ) (fil
     → IsRestartPoint last first_point node (sound_entries (start_at first_point) old) point
     → AreEntriesReadFrom point.place point.checksum files (drop (point.entry - 1) entries) fault
 
--- law: behind a restart point of a log's entries, the restart points of what is read from there are those of the whole log with
+-- behind a restart point of a log's entries, the restart points of what is read from there are those of the whole log with
 -- numbers from there on, and so is the latest one
 pub record PointsGoOn (last : Key) (from point : RestartPoint) (node : ℕ) (before behind : List LogEntry) : Type 0 where
   pub forth : (other : RestartPoint) → IsRestartPoint last point node behind other → IsRestartPoint last from node (before ++ behind) other
@@ -165,7 +165,7 @@ pub record PointsGoOn (last : Key) (from point : RestartPoint) (node : ℕ) (bef
       → IsRestartPoint last point node behind other
   pub latest : (other : RestartPoint) → IsLatestPoint last point node behind other → IsLatestPoint last from node (before ++ behind) other
 
--- law: the restart points of a resumed reading are the whole log's from there on
+-- law: restart points that are found behind a restart point are those of the whole log, for a key that isn't lesser
 abbrev pub RestartedPointsAreTheWholes : Type 0
 RestartedPointsAreTheWholes = (last later : Key) (from point : RestartPoint) (node : ℕ) (before behind : List LogEntry)
     → 1 ≤ from.entry → IsAtMost last later → point.entry ≡ from.entry + length before

@@ -51,18 +51,18 @@ seen_row kind bytes = (kind, run_body kind bytes)
 
 -- ---- the first row of a run
 
--- its type
+-- the first row's type
 abbrev pub first_kind : List ℕ → ℕ
 first_kind bytes = slice_index bytes 0
 
--- how many bytes its body has
+-- how many bytes the first row's body has
 abbrev pub first_length : List ℕ → ℕ
 first_length bytes = number_of (take 4 (drop 1 bytes))
 
--- its body
+-- the bytes of the first row's body
 abbrev pub first_own : List ℕ → List ℕ
 first_own bytes = take (first_length bytes) (drop 5 bytes)
 
--- the rows behind it
+-- what stands behind the first row
 abbrev pub first_behind : List ℕ → List ℕ
 first_behind bytes = drop (first_length bytes) (drop 5 bytes)

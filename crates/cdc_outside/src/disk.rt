@@ -4,7 +4,7 @@ ghost use Rattle.std.specs.Prelude.{◌≡◌, ℕ, ◌≤◌, Bool, IsTrue, Lis
 ghost use Rattle.cdc_outside.specs.declared.disk_file.DiskFile.{DiskFile};
 ghost use Rattle.cdc_outside.specs.Count.{RisesOnErr};
 ghost use Rattle.cdc_outside.specs.Disk.{Image, Change, Wrote, CutTo, MayLeave, IsDurable, Begins, Elapses, with_file, overwritten};
-ghost use Rattle.cdc_outside.specs.Source.{Reads};
+ghost use Rattle.cdc_outside.specs.Source.{ReadsFile};
 
 use crate::disk_file::DiskFile;
 use crate::failed::Failed;
@@ -53,7 +53,7 @@ pub trait Disk: Drop {
     /// all of `into` after `Failed`, is unknown.
     fn read_at(&mut self, file: DiskFile, at: u64, into: &mut [u8]) -> Result<usize, Failed>
         ensures within { IfOk result (λ read. read ≤ length into.old) }
-        ensures read { IsTrue tells → IfOk result (λ read. Reads (seen self.old file) at into.new read) }
+        ensures read { IsTrue tells → IfOk result (λ read. ReadsFile (seen self.old file) at into.new read) }
         ensures seen { IsTrue tells → seen self.new ≡ seen self.old }
         ensures synced { IsTrue tells → synced self.new ≡ synced self.old }
         ensures pending { IsTrue tells → pending self.new ≡ pending self.old }

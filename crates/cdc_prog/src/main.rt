@@ -18,13 +18,14 @@ use cdc_files::{StdSink, StdStream};
 use cdc_outside::Sink;
 use cdc_top::{answer_without_memory, top};
 use std::alloc::Global;
-use std::fs::Files;
+use std::fs::{Files, OpenFile};
 use std::io::Write;
+use std::os::unix::fs::FileExt;
 use std::process::ExitCode;
 use std::rt::Env;
 
 /// Answers the words of the command line.
-fn answer<R: AllocGlobal + Env + Files, W: Write + Drop>(
+fn answer<F: FileExt + OpenFile + Drop, R: AllocGlobal + Env + Files<File = F>, W: Write + Drop>(
     rt: &R,
     out: &mut StdSink<W>,
     err: &mut StdSink<W>,

@@ -7,14 +7,16 @@ use cdc_base::{Memory, Text};
 use cdc_files::FileSource;
 use cdc_top::is_print;
 use std::alloc::Global;
-use std::fs::{File, Files};
+use std::fs::{Files, OpenFile};
+use std::os::unix::fs::FileExt;
+use std::slice;
 
 /// A source a file word, where the words are `print` and files; else none. A file that can't be opened is a source
 /// that fails at each call.
-pub fn open_nodes<R: AllocGlobal + Files>(
+pub fn open_nodes<F: FileExt + OpenFile + Drop, R: AllocGlobal + Files<File = F>>(
     rt: &R,
     words: &[Text],
-) -> Result<Vec<FileSource<R::File>>, Memory>
+) -> Result<Vec<FileSource<F>>, Memory>
     ensures { IfOk result (λ nodes. command.is_print words.now ≡ true → length nodes.items + 1 ≡ length words.now) }
 {
     match words {
@@ -24,16 +26,15 @@ pub fn open_nodes<R: AllocGlobal + Files>(
 }
 
 /// A source a word.
-fn open_each<R: AllocGlobal + Files>(
+fn open_each<F: FileExt + OpenFile + Drop, R: AllocGlobal + Files<File = F>>(
     rt: &R,
     files: &[Text],
-) -> Result<Vec<FileSource<R::File>>, Memory>
+) -> Result<Vec<FileSource<F>>, Memory>
     ensures { IfOk result (λ nodes. length nodes.items ≡ length files.now) }
 {
     let mut nodes = Vec::new(rt.alloc());
     for file in files {
-        let opened = File::open(rt, file.as_str()).ok();
-        nodes.push(FileSource::single(rt.alloc(), opened)?)?;
+        nodes.push(FileSource::open(rt, slice::from_ref(file))?)?;
     }
     Ok(nodes)
 }

@@ -79,7 +79,7 @@ abbrev pub xid_behind : List ℕ → Option (List ℕ × List ℕ) → Option Xi
 xid_behind gtrid None = None
 xid_behind gtrid (Some bqual) = xid_with (quoted_id_of gtrid) (quoted_id_of bqual.0) (xid_format_of bqual.1)
 
--- the branch from its first quoted id and what stands behind it
+-- the branch with this gtrid in front
 abbrev pub xid_from_gtrid : Option (List ℕ × List ℕ) → Option Xid
 xid_from_gtrid None = None
 xid_from_gtrid (Some gtrid) = xid_behind gtrid.0 (quoted gtrid.1)

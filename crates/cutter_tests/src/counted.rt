@@ -5,7 +5,7 @@ ghost use Rattle.cdc_event.specs.File.{PlacedEvent, AreFileEvents};
 ghost use Rattle.cdc_event.specs.declared.fault.FileFault.{FileFault};
 
 use cdc_base::Memory;
-use cdc_cutter::{Cut, Cutter};
+use cdc_cutter::{Cut, Cutter, Peek};
 use cdc_samples::Log;
 use std::alloc::Global;
 use std::test::Fail;
@@ -26,6 +26,22 @@ fn count_events(alloc: Global, file: &[u8]) -> Result<Option<usize>, Memory>
     Ok(None)
 }
 
+/// The same, with the events in place.
+fn count_in_place(alloc: Global, file: &[u8]) -> Result<Option<usize>, Memory>
+    requires { length file.now < 2 ^ 54 }
+    ensures { IfOk result (λ counted. IfSome counted (λ count. (events : List PlacedEvent) × (fault : Option (ℕ × FileFault)) × AreFileEvents file.now events fault × (count ≡ length events))) }
+{
+    let mut cutter = Cutter::new(alloc)?;
+    cutter.feed(file)?;
+    for count in 0..file.len() {
+        match cutter.peek() {
+            Peek::Event { end, checksum, .. } => cutter.pass(end, checksum),
+            Peek::Need | Peek::Fault { .. } => return Ok(Some(count)),
+        }
+    }
+    Ok(None)
+}
+
 #[test]
 fn a_file_has_so_many_events(rt: HostRuntime) -> Result<(), Fail> {
     for (words, wanted) in [
@@ -37,6 +53,8 @@ fn a_file_has_so_many_events(rt: HostRuntime) -> Result<(), Fail> {
         let log = Log::of(rt.alloc(), words)?;
         let count = count_events(rt.alloc(), log.bytes())?;
         assert_eq!(&rt; count, Some(wanted), "{words}");
+        let in_place = count_in_place(rt.alloc(), log.bytes())?;
+        assert_eq!(&rt; in_place, Some(wanted), "{words}");
     }
     Ok(())
 }

@@ -1,11 +1,15 @@
 //! Sources over real files.
 
+ghost use Rattle.std.specs.Prelude.{◌≤◌, length};
+
 use crate::pattern::{ask, pattern};
-use cdc_files::FileSource;
+use cdc_base::{Text, TextList};
+use cdc_files::{FileSource, HeldSource};
 use cdc_outside::{Source, read_whole};
 use std::alloc::Global;
 use std::fs;
 use std::fs::File;
+use std::slice;
 use std::test::Fail;
 
 // Whether a file of the pattern's 70,000 bytes is read whole, and then in any order.
@@ -45,5 +49,107 @@ fn a_file_that_cannot_be_opened_fails_at_each_call(rt: HostRuntime) -> Result<()
     let length = source.length(1).is_err();
     let read = source.read_at(1, 4, &mut [0u8; 2]).is_err();
     assert!(rt; files && length && read && source.faults() == 3);
+    Ok(())
+}
+
+// How many of three calls of the first file fail.
+fn failures<S: Source>(source: &mut S) -> u32
+    requires { 1 ≤ length (S.sizes source.old) }
+{
+    let files = source.files().is_err();
+    let length = source.length(1).is_err();
+    let read = source.read_at(1, 4, &mut [0u8; 2]).is_err();
+    u32::from(files) + u32::from(length) + u32::from(read)
+}
+
+// The length of a file; none where the source fails.
+fn told<S: Source>(source: &mut S, file: u32) -> Option<u64> {
+    let files = source.files().ok()?;
+    if file == 0 || files < file {
+        return None;
+    }
+    source.length(file).ok()
+}
+
+fn texts(alloc: Global, paths: &[&str]) -> Result<TextList, Fail> {
+    let mut list = TextList::new(alloc);
+    for path in paths {
+        list.push(Text::of(alloc, path)?)?;
+    }
+    Ok(list)
+}
+
+#[test]
+fn a_list_of_files_is_one_source(rt: HostRuntime) -> Result<(), Fail> {
+    fs::write(&rt, "a", b"abc")?;
+    fs::write(&rt, "b", b"0123456789")?;
+    let paths = texts(rt.alloc(), &["a", "b", "a"])?;
+    let mut source = FileSource::open(&rt, paths.as_slice())?;
+    assert!(rt; source.files() == Ok(3));
+    assert!(rt; told(&mut source, 1) == Some(3) && told(&mut source, 2) == Some(10));
+    let mut into = [0u8; 4];
+    let read = ask(&mut source, 2, 7, &mut into)?;
+    assert!(rt; read == 3 && into[..3] == *b"789");
+    let read = ask(&mut source, 3, 1, &mut into)?;
+    assert!(rt; read == 2 && into[..2] == *b"bc" && source.faults() == 0);
+    Ok(())
+}
+
+#[test]
+fn only_regular_files_are_read(rt: HostRuntime) -> Result<(), Fail> {
+    fs::create_dir(&rt, "folder")?;
+    for path in ["folder", "/dev/null", "none"] {
+        let path = Text::of(rt.alloc(), path)?;
+        let mut source = FileSource::open(&rt, slice::from_ref(&path))?;
+        assert!(rt; failures(&mut source) == 3 && source.faults() == 3);
+        let mut held = HeldSource::open(&rt, &path)?;
+        assert!(rt; failures(&mut held) == 3 && held.faults() == 3);
+    }
+    Ok(())
+}
+
+#[test]
+fn a_file_that_becomes_shorter_fails(rt: HostRuntime) -> Result<(), Fail> {
+    fs::write(&rt, "log", b"0123456789")?;
+    let path = Text::of(rt.alloc(), "log")?;
+    let mut source = FileSource::open(&rt, slice::from_ref(&path))?;
+    assert!(rt; told(&mut source, 1) == Some(10));
+    fs::write(&rt, "log", b"01234")?;
+    let mut into = [0u8; 4];
+    assert!(rt; ask(&mut source, 1, 3, &mut into) == Ok(2));
+    assert!(rt; ask(&mut source, 1, 5, &mut into).is_err());
+    assert!(rt; told(&mut source, 1) == None && source.faults() == 2);
+    Ok(())
+}
+
+// The bytes that a held file of so many has, where it is as the pattern.
+fn held(rt: &HostRuntime, bytes: u32) -> Result<Option<usize>, Fail> {
+    let want = pattern(rt.alloc(), bytes)?;
+    fs::write(rt, "held", want.bytes())?;
+    let path = Text::of(rt.alloc(), "held")?;
+    let mut source = HeldSource::open(rt, &path)?;
+    fs::write(rt, "held", b"")?;
+    let read = read_whole(rt.alloc(), &mut source, 1)?;
+    let same = want.bytes().get(..read.len()) == Some(read.bytes());
+    Ok(if same && source.faults() == 0 {
+        Some(read.len())
+    } else {
+        None
+    })
+}
+
+#[test]
+fn a_file_is_held_as_it_was_read(rt: HostRuntime) -> Result<(), Fail> {
+    let rows = [
+        (0, 0),
+        (70_000, 70_000),
+        (1_048_576, 1_048_576),
+        (1_048_577, 1_048_577),
+        (1_048_600, 1_048_577),
+    ];
+    for (bytes, kept) in rows {
+        let found = held(&rt, bytes)?;
+        assert!(rt; found == Some(kept), "{bytes} bytes");
+    }
     Ok(())
 }

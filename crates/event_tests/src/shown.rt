@@ -4,7 +4,9 @@ ghost use Rattle.std.specs.Prelude.{◌≡◌, ◌≤◌, ◌+◌, length};
 ghost use Rattle.cdc_event.specs.Length.{HasGoodLength};
 
 use cdc_base::Blob;
-use cdc_event::{Event, Header, ReadError, check_length, read_body, read_owned_body};
+use cdc_event::{
+    Event, Header, ReadError, check_length, read_body, read_owned_body, read_view,
+};
 use cdc_samples::blobs::blob_of;
 use cdc_samples::events::header;
 use std::alloc::{AllocError, Global};
@@ -17,13 +19,40 @@ fn shown(alloc: Global, read: Result<Event, ReadError>) -> Result<String, AllocE
     }
 }
 
+// Whether what was read is seen in place too: the same event, or the same fault.
+fn is_seen(
+    alloc: Global,
+    header: &Header,
+    bytes: &[u8],
+    checksum: u8,
+    read: &Result<Event, ReadError>,
+) -> Result<bool, AllocError>
+    requires setting { checksum ≤ 1 }
+    requires length { HasGoodLength checksum header.now }
+    requires whole { header.now.length ≡ 19 + length bytes.now }
+{
+    let seen = match read_view(header, bytes, checksum) {
+        Ok(view) => format!(in alloc; "{view:?}")?,
+        Err(fault) => format!(in alloc; "{:?}", ReadError::Fault(fault))?,
+    };
+    let wanted = match read {
+        Ok(event) => format!(in alloc; "{:?}", event.view())?,
+        Err(error) => format!(in alloc; "{error:?}")?,
+    };
+    Ok(seen == wanted)
+}
+
 // What a header and a body are read as, by a shared body and by one that is given away: one text where both are the same.
 fn read_both(alloc: Global, header: &Header, body: Blob, checksum: u8) -> Result<String, AllocError>
     requires setting { checksum ≤ 1 }
     requires length { HasGoodLength checksum header.now }
     requires whole { header.now.length ≡ 19 + length body }
 {
-    let shared = shown(alloc, read_body(header, &body, checksum))?;
+    let read = read_body(header, &body, checksum);
+    if !is_seen(alloc, header, body.bytes(), checksum, &read)? {
+        return format!(in alloc; "another event in place");
+    }
+    let shared = shown(alloc, read)?;
     let owned = shown(alloc, read_owned_body(header, body, checksum))?;
     if shared == owned {
         Ok(shared)

@@ -1,7 +1,7 @@
 use Rattle.std.proofs.Common.{ℕ, List, Err, ap, subst, sym, ◌∙◌}
 use Rattle.toml.specs.View.{view}
 use Rattle.cdc_config.specs.Keys.{task_from}
-use Rattle.cdc_config.specs.Tree.{Gives}
+use Rattle.cdc_config.specs.Tree.{GivesPart}
 use Rattle.cdc_config.proofs.PathKeys.{node_refused, out_refused, paths_judged, task_refused}
 use Rattle.cdc_config.proofs.judging.paths_in.Goals as goal
 
@@ -14,7 +14,7 @@ returns-in-Err-outs_of-clause-judged c =
 
 pub returns-in-Err-task_of-clause-judged : goal.returns-in-Err-task_of-clause-judged
 returns-in-Err-task_of-clause-judged c =
-    let given = subst (λ (taken : List (List ℕ)). Gives {A = List ℕ} (Err c.in-Err-task_of.misfit) (task_from taken (view c.args.root.now))) c.as_slice.ensures c.in-Err-task_of.ensures in
+    let given = subst (λ (taken : List (List ℕ)). GivesPart {A = List ℕ} (Err c.in-Err-task_of.misfit) (task_from taken (view c.args.root.now))) c.as_slice.ensures c.in-Err-task_of.ensures in
     task_refused (view c.args.root.now) c.in-Ok.nodes c.in-Ok-outs_of.outs.folders c.in-Err-task_of.misfit c.at-in-Err-task_of.result c.at-in-Err-task_of.ensures c.in-Ok.ensures.nodes c.in-Ok-outs_of.ensures.outs.0 given
 
 pub returns-in-Ok-task_of-clause-judged : goal.returns-in-Ok-task_of-clause-judged
