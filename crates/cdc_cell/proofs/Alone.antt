@@ -1,7 +1,7 @@
 -- Calls that only read, one after the other.
 use Rattle.std.proofs.Common.{◌≡◌, ℕ, List, refl, sym, ap, ◌∙◌}
 use Rattle.cdc_outside.specs.declared.disk_file.DiskFile.{DiskFile}
-use Rattle.cdc_outside.specs.Disk.{Image, Change, IsDurable, Elapses, LeavesOnly}
+use Rattle.cdc_outside.specs.Disk.{Image, Change, IsDurable, Elapses}
 use Rattle.cdc_outside.proofs.Moments.{started, goes_on, joined}
 use Rattle.cdc_cell.specs.Reading.{IsLeftAlone}
 

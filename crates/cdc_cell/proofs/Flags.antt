@@ -1,16 +1,14 @@
 -- The record by whether each slot is open, and whether it is overrun.
-use Rattle.std.proofs.Common.{◌≡◌, ◌⊎◌, inl, inr, ℕ, ◌-◌, ◌≤◌, ◌<◌, min, nat_lt, ◌==◌, ◌&&◌, ◌||◌, not, Bool, true, false, if◌then◌else◌, List, length, take, drop, Option, Some, None, Result, Ok, Err, refl, sym, ◌∙◌, ap, subst, arith, length-take, length-drop}
+use Rattle.std.proofs.Common.{◌≡◌, ℕ, ◌-◌, ◌≤◌, min, nat_lt, ◌==◌, ◌&&◌, ◌||◌, Bool, true, false, if◌then◌else◌, List, length, drop, Option, Some, None, Err, refl, sym, ◌∙◌, ap, arith, length-take, length-drop}
 use Rattle.std.specs.Prelude.{option_map}
 use Rattle.std.proofs.lemmas.Bool.Decides.{nat_tests}
 use Rattle.cdc_outside.specs.declared.disk_file.DiskFile.{DiskFile}
-use Rattle.cdc_outside.specs.declared.disk_file.DiskFile.TheVariants.{SlotA, SlotB, Log}
+use Rattle.cdc_outside.specs.declared.disk_file.DiskFile.TheVariants.{SlotA, SlotB}
 use Rattle.cdc_outside.specs.Disk.{Image}
-use Rattle.cdc_cell.specs.Slot.{is_open, is_overrun, head_of, slot_number, slot_length, slot_payload}
-use Rattle.cdc_cell.specs.Record.{CellRecord, record_in, bad_by, kept_by, bad_slot, kept_record}
-use Rattle.cdc_cell.specs.Cell.{known_of, kept_head, opened_from, decided, decided_by, target_in}
-use Rattle.cdc_cell.specs.declared.cell.Cell.{Cell}
+use Rattle.cdc_cell.specs.Slot.{is_open, head_of, slot_number, slot_length, slot_payload}
+use Rattle.cdc_cell.specs.Record.{CellRecord, record_in, bad_by, kept_by}
+use Rattle.cdc_cell.specs.Cell.{known_of, kept_head, opened_from, decided, decided_by}
 use Rattle.cdc_cell.specs.declared.cell.Kept.{Kept}
-use Rattle.cdc_cell.specs.declared.fault.CellFault.{CellFault}
 use Rattle.cdc_cell.specs.declared.fault.CellFault.TheVariants.{BadCell, DiskFault}
 use Rattle.cdc_cell.specs.declared.slot.SlotHead.{SlotHead}
 

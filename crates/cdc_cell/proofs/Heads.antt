@@ -1,11 +1,10 @@
 -- The head of a slot, from its first bytes.
-use Rattle.std.proofs.Common.{◌≡◌, ℕ, ◌+◌, ◌-◌, ◌≤◌, ◌<◌, nat_lt, nat_le, Bool, true, false, if◌then◌else◌, ◌&&◌, ◌==◌, List, ◌++◌, length, get_or, take, drop, slice_index, Option, Some, None, refl, sym, ◌∙◌, ap, subst, arith, length-take, length-drop}
+use Rattle.std.proofs.Common.{◌≡◌, ℕ, ◌+◌, ◌-◌, ◌≤◌, ◌<◌, nat_lt, true, false, List, length, take, drop, slice_index, Some, None, sym, ◌∙◌, ap, arith, length-take, length-drop}
 use Rattle.std.specs.Int.{from_le_bytes, w64}
 use Rattle.std.proofs.lemmas.Bool.Decides.{nat_tests}
 use Rattle.std.proofs.lemmas.Grind.{same_number_lists}
 use Rattle.std.proofs.lemmas.List.{get_or-take, get_or-drop}
 use Rattle.cdc_cell.specs.Slot.{number_at, is_open, head_of, slot_number, slot_length}
-use Rattle.cdc_cell.specs.declared.slot.SlotHead.{SlotHead}
 
 -- a number within the first 17 bytes
 pub piece_in : (place : ℕ) (file : List ℕ) → place + 8 ≤ 17 → take 8 (drop place (take 17 file)) ≡ take 8 (drop place file)
@@ -13,9 +12,9 @@ piece_in place file fits =
     same_number_lists (take 8 (drop place (take 17 file))) (take 8 (drop place file))
     (omega (arith, length-take 8 (drop place (take 17 file)), length-take 8 (drop place file), length-drop place (take 17 file), length-drop place file, length-take 17 file))
     (λ k lt.
-        let within : k < 8 = omega (arith, length-take 8 (drop place (take 17 file))) in
-        get_or-take 8 (drop place (take 17 file)) k 0 within ∙ get_or-drop place (take 17 file) k 0 ∙ get_or-take 17 file (place + k) 0 (omega arith)
-        ∙ sym (get_or-drop place file k 0) ∙ sym (get_or-take 8 (drop place file) k 0 within))
+    let within : k < 8 = omega (arith, length-take 8 (drop place (take 17 file))) in
+    get_or-take 8 (drop place (take 17 file)) k 0 within ∙ get_or-drop place (take 17 file) k 0 ∙ get_or-take 17 file (place + k) 0 (omega arith)
+    ∙ sym (get_or-drop place file k 0) ∙ sym (get_or-take 8 (drop place file) k 0 within))
 
 pub number_in : (place : ℕ) (file front : List ℕ) (number : ℕ) → place + 8 ≤ 17 → take 17 file ≡ front → number ≡ from_le_bytes w64 (take 8 (drop place front)) → number ≡ number_at place file
 unfolding number_at

@@ -1,13 +1,13 @@
 -- What a cell that knows the record says of the image.
-use Rattle.std.proofs.Common.{◌≡◌, ◌⊎◌, inl, inr, ℕ, ◌+◌, ◌-◌, ◌≤◌, ◌<◌, min, nat_lt, Bool, true, false, List, length, get_or, take, drop, slice_index, Option, Some, None, refl, sym, ◌∙◌, ap, subst, arith, length-take, length-drop}
+use Rattle.std.proofs.Common.{◌≡◌, ℕ, ◌+◌, ◌≤◌, ◌<◌, nat_lt, Bool, true, false, List, length, get_or, take, drop, Some, refl, sym, ◌∙◌, ap, subst, arith, length-take, length-drop}
 use Rattle.std.specs.Prelude.{option_map}
 use Rattle.std.proofs.lemmas.Grind.{same_number_lists}
 use Rattle.std.proofs.lemmas.List.{get_or-take, get_or-drop}
 use Rattle.cdc_outside.specs.declared.disk_file.DiskFile.{DiskFile}
-use Rattle.cdc_outside.specs.declared.disk_file.DiskFile.TheVariants.{SlotA, SlotB, Log}
+use Rattle.cdc_outside.specs.declared.disk_file.DiskFile.TheVariants.{SlotA, SlotB}
 use Rattle.cdc_outside.specs.Disk.{Image}
-use Rattle.cdc_cell.specs.Slot.{is_open, slot_number, slot_length, slot_payload}
-use Rattle.cdc_cell.specs.Record.{CellRecord, record_in, kept_by, kept_record, HasNewRecord}
+use Rattle.cdc_cell.specs.Slot.{is_open, slot_number, slot_payload}
+use Rattle.cdc_cell.specs.Record.{record_in, kept_by, kept_record, HasNewRecord}
 use Rattle.cdc_cell.specs.Cell.{known_of, payload_in, Knows}
 use Rattle.cdc_cell.specs.declared.cell.Cell.{Cell}
 use Rattle.cdc_cell.specs.declared.cell.Kept.{Kept}
@@ -39,10 +39,10 @@ payload_range size at count bytes fits =
     same_number_lists (take count (drop (17 + at) bytes)) (take count (drop at (take size (drop 17 bytes))))
     (omega (arith, length-take count (drop (17 + at) bytes), length-take count (drop at (take size (drop 17 bytes))), length-drop (17 + at) bytes, length-drop at (take size (drop 17 bytes)), whole, left))
     (λ k lt.
-        let within : k < count = omega (arith, length-take count (drop (17 + at) bytes)) in
-        get_or-take count (drop (17 + at) bytes) k 0 within ∙ get_or-drop (17 + at) bytes k 0
-        ∙ ap (λ n. get_or bytes n 0) (omega arith)
-        ∙ sym (get_or-take count (drop at (take size (drop 17 bytes))) k 0 within ∙ get_or-drop at (take size (drop 17 bytes)) k 0 ∙ get_or-take size (drop 17 bytes) (at + k) 0 (omega (arith, whole)) ∙ get_or-drop 17 bytes (at + k) 0))
+    let within : k < count = omega (arith, length-take count (drop (17 + at) bytes)) in
+    get_or-take count (drop (17 + at) bytes) k 0 within ∙ get_or-drop (17 + at) bytes k 0
+    ∙ ap (λ n. get_or bytes n 0) (omega arith)
+    ∙ sym (get_or-take count (drop at (take size (drop 17 bytes))) k 0 within ∙ get_or-drop at (take size (drop 17 bytes)) k 0 ∙ get_or-take size (drop 17 bytes) (at + k) 0 (omega (arith, whole)) ∙ get_or-drop 17 bytes (at + k) 0))
 
 pub range_there : (size at count : ℕ) (bytes : List ℕ) → 0 < count → at + count ≤ length (take size (drop 17 bytes)) → 17 + at + count ≤ length bytes
 range_there size at count bytes some fits = omega (arith, length-take size (drop 17 bytes), length-drop 17 bytes)

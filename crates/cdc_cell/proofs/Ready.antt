@@ -1,5 +1,5 @@
 -- What images of a store keep, slot by slot.
-use Rattle.std.proofs.Common.{◌≡◌, ◌⊎◌, inl, inr, ℕ, ◌+◌, ◌-◌, ◌≤◌, ◌<◌, nat_lt, ◌==◌, ◌&&◌, ◌||◌, not, Bool, true, false, if◌then◌else◌, List, Option, Some, None, refl, sym, ◌∙◌, ap, subst, arith}
+use Rattle.std.proofs.Common.{◌≡◌, ◌⊎◌, inl, inr, ℕ, ◌<◌, nat_lt, ◌==◌, ◌&&◌, Bool, true, false, if◌then◌else◌, List, Option, Some, None, refl, sym, ◌∙◌, ap, subst, arith}
 use Rattle.std.specs.Prelude.{option_map}
 use Rattle.std.proofs.lemmas.Bool.Decides.{nat_tests}
 use Rattle.cdc_outside.specs.declared.disk_file.DiskFile.{DiskFile}
@@ -82,15 +82,17 @@ kept_shut_b false false less first second e = refl
 pub shut : (slot : DiskFile) (number : ℕ) (old left : Image) → (slot ≡ SlotA) ⊎ (slot ≡ SlotB) → IsReady slot number old → left (other_slot slot) ≡ old (other_slot slot) → is_open (left slot) ≡ false
     → (bad_slot left ≡ None) × (kept_record left ≡ kept_record old)
 shut SlotA number old left which r same closed =
-    let whole : is_overrun (left SlotB) ≡ false = ap is_overrun same ∙ second_whole (is_overrun (old SlotA)) (is_overrun (old SlotB)) _ r.sound in
-    (bad_shut_a (is_open (left SlotA)) _ (is_overrun (left SlotB)) _ (is_open (left SlotB)) closed whole,
-     kept_shut_a (is_open (left SlotA)) (is_open (left SlotB)) _ (record_in SlotA (left SlotA)) (record_in SlotB (left SlotB)) closed
-     ∙ ap (λ (bytes : List ℕ). if is_open bytes then Some (record_in SlotB bytes) else None) same ∙ sym r.free)
+    let whole : is_overrun (left SlotB) ≡ false = ap is_overrun same ∙ second_whole (is_overrun (old SlotA)) (is_overrun (old SlotB)) _ r.sound in (
+      bad_shut_a (is_open (left SlotA)) _ (is_overrun (left SlotB)) _ (is_open (left SlotB)) closed whole,
+      kept_shut_a (is_open (left SlotA)) (is_open (left SlotB)) _ (record_in SlotA (left SlotA)) (record_in SlotB (left SlotB)) closed
+          ∙ ap (λ (bytes : List ℕ). if is_open bytes then Some (record_in SlotB bytes) else None) same ∙ sym r.free,
+    )
 shut SlotB number old left which r same closed =
-    let whole : is_overrun (left SlotA) ≡ false = ap is_overrun same ∙ first_whole (is_overrun (old SlotA)) (is_overrun (old SlotB)) _ r.sound in
-    (bad_shut_b (is_open (left SlotB)) _ (is_overrun (left SlotA)) _ (is_open (left SlotA)) closed whole,
-     kept_shut_b (is_open (left SlotA)) (is_open (left SlotB)) _ (record_in SlotA (left SlotA)) (record_in SlotB (left SlotB)) closed
-     ∙ ap (λ (bytes : List ℕ). if is_open bytes then Some (record_in SlotA bytes) else None) same ∙ sym r.free)
+    let whole : is_overrun (left SlotA) ≡ false = ap is_overrun same ∙ first_whole (is_overrun (old SlotA)) (is_overrun (old SlotB)) _ r.sound in (
+      bad_shut_b (is_open (left SlotB)) _ (is_overrun (left SlotA)) _ (is_open (left SlotA)) closed whole,
+      kept_shut_b (is_open (left SlotA)) (is_open (left SlotB)) _ (record_in SlotA (left SlotA)) (record_in SlotB (left SlotB)) closed
+          ∙ ap (λ (bytes : List ℕ). if is_open bytes then Some (record_in SlotA bytes) else None) same ∙ sym r.free,
+    )
 shut (Log n) number old left (inl e) r same closed = absurd (cc)
 shut (Log n) number old left (inr e) r same closed = absurd (cc)
 

@@ -1,11 +1,11 @@
 -- The images of each step of a store, and what they keep.
-use Rattle.std.proofs.Common.{◌≡◌, ◌⊎◌, inl, inr, ⊎_elim, ℕ, ◌+◌, ◌≤◌, ◌<◌, ◌^◌, Bool, true, false, List, [], ◌∷◌, ◌++◌, length, slice_index, Option, Some, None, refl, sym, ◌∙◌, ap, subst, arith}
+use Rattle.std.proofs.Common.{◌≡◌, inl, inr, ⊎_elim, ℕ, ◌<◌, ◌^◌, false, List, [], ◌∷◌, ◌++◌, length, slice_index, Some, refl, sym, ◌∙◌, ap, subst}
 use Rattle.cdc_outside.specs.declared.disk_file.DiskFile.{DiskFile}
 use Rattle.cdc_outside.specs.declared.disk_file.DiskFile.TheVariants.{SlotA, SlotB, Log}
 use Rattle.cdc_outside.specs.Disk.{Image, IsTorn, OneWrite, with_file, overwritten}
 use Rattle.cdc_outside.proofs.Pending.{with_file_same, others_same}
 use Rattle.cdc_cell.specs.Slot.{is_open, is_overrun, slot_number, slot_head}
-use Rattle.cdc_cell.specs.Record.{IsClosing, IsShut, IsSlot, IsReady, IsOldOrNew, HasOldRecord, HasNewRecord, SameLogs, record_in, other_slot, bad_slot, kept_record}
+use Rattle.cdc_cell.specs.Record.{IsClosing, IsShut, IsSlot, IsReady, IsOldOrNew, HasOldRecord, HasNewRecord, SameLogs, record_in, other_slot}
 use Rattle.cdc_cell.proofs.Ready.{shut, fresh}
 use Rattle.cdc_cell.proofs.Gates.{torn_behind, torn_open, filled, written}
 

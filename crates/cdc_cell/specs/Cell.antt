@@ -1,7 +1,7 @@
 -- What a cell knows of its record.
-use Rattle.std.specs.Prelude.{◌≡◌, ℕ, ◌+◌, ◌<◌, ◌^◌, ◌==◌, ◌&&◌, ◌||◌, nat_lt, Bool, false, List, [], length, Option, Some, None, option_map, if◌then◌else◌, Result, Ok, Err}
+use Rattle.std.specs.Prelude.{◌≡◌, ℕ, ◌==◌, ◌||◌, nat_lt, Bool, false, List, [], length, Option, Some, None, option_map, if◌then◌else◌, Result, Ok, Err}
 use Rattle.cdc_outside.specs.declared.disk_file.DiskFile.{DiskFile}
-use Rattle.cdc_outside.specs.declared.disk_file.DiskFile.TheVariants.{SlotA, SlotB, Log}
+use Rattle.cdc_outside.specs.declared.disk_file.DiskFile.TheVariants.{SlotA, SlotB}
 use Rattle.cdc_outside.specs.Disk.{Image}
 use Rattle.cdc_cell.specs.Record.{CellRecord, bad_slot, kept_record, other_slot}
 use Rattle.cdc_cell.specs.declared.fault.CellFault.{CellFault}

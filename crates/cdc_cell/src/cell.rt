@@ -147,10 +147,12 @@ impl Cell {
         ensures slot { IsSlot result }
     {
         match self.kept {
-            Some(Kept {
-                slot: DiskFile::SlotA,
-                ..
-            }) => DiskFile::SlotB,
+            Some(
+                Kept {
+                    slot: DiskFile::SlotA,
+                    ..
+                },
+            ) => DiskFile::SlotB,
             _ => DiskFile::SlotA,
         }
     }

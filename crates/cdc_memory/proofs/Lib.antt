@@ -1,2 +1,3 @@
 pub mod DiskContents
+pub mod Picks
 pub mod Replays

@@ -6,6 +6,7 @@
 #![tactic(auto)]
 
 mod calls;
+mod crash;
 mod disk_files;
 mod disk_record;
 mod files;

@@ -1,4 +1,4 @@
-use Rattle.std.proofs.Common.{◌≡◌, ℕ, ◌+◌, ◌-◌, ◌≤◌, List, length, take, drop, sym, ◌∙◌, ap, subst, arith}
+use Rattle.std.proofs.Common.{◌≡◌, ℕ, ◌+◌, ◌-◌, List, length, take, drop, ◌∙◌, ap, arith}
 use Rattle.cdc_outside.specs.Disk.{Image}
 use Rattle.cdc_cell.proofs.Alone.{alone_both}
 use Rattle.cdc_cell.proofs.Filling.{read_on}

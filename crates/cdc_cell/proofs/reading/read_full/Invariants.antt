@@ -1,4 +1,4 @@
-use Rattle.std.proofs.Common.{◌≡◌, ℕ, ◌+◌, ◌-◌, ◌≤◌, IsTrue, length, take, drop}
+use Rattle.std.proofs.Common.{◌≡◌, ◌-◌, ◌≤◌, IsTrue, length, take, drop}
 use Rattle.cdc_cell.specs.Reading.{IsLeftAlone}
 use Rattle.cdc_cell.proofs.reading.read_full.Given as goal
 

@@ -1,8 +1,7 @@
-use Rattle.std.proofs.Common.{◌≡◌, ℕ, ◌≤◌, ◌<◌, nat_lt, ◌-◌, List, length, take, slice_index, get_or, Option, Some, sym, ◌∙◌, ap, subst, refl, arith}
+use Rattle.std.proofs.Common.{◌≡◌, ℕ, ◌≤◌, nat_lt, ◌-◌, List, length, slice_index, get_or, Option, Some, sym, ◌∙◌, ap, arith}
 use Rattle.std.proofs.lemmas.List.{get_or-take}
-use Rattle.cdc_cell.specs.Slot.{head_of}
 use Rattle.cdc_cell.specs.declared.slot.SlotHead.{SlotHead}
-use Rattle.cdc_cell.proofs.Heads.{number_in, is_open_here, is_shut_here, head_open, head_shut}
+use Rattle.cdc_cell.proofs.Heads.{number_in, is_open_here, head_open}
 use Rattle.cdc_cell.proofs.slot.head_in.Goals as goal
 
 pub returns : goal.returns

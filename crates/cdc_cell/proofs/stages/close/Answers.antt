@@ -1,5 +1,5 @@
-use Rattle.std.proofs.Common.{◌≡◌, ℕ, sym, subst, ap}
-use Rattle.cdc_outside.specs.Disk.{Image, IsDurable, OneWrite, LeavesOnly}
+use Rattle.std.proofs.Common.{subst}
+use Rattle.cdc_outside.specs.Disk.{Image, IsDurable, OneWrite}
 use Rattle.cdc_outside.proofs.Moments.{joined, weaker}
 use Rattle.cdc_outside.proofs.Pending.{durable_left}
 use Rattle.cdc_cell.specs.Record.{IsClosing}

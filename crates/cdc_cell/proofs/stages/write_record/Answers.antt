@@ -1,8 +1,8 @@
-use Rattle.std.proofs.Common.{◌≡◌, ◌+◌, ◌<◌, ◌^◌, ℕ, List, length, inl, inr, ap, subst, arith}
-use Rattle.cdc_outside.specs.Disk.{Image, IsDurable, OneWrite, LeavesOnly}
+use Rattle.std.proofs.Common.{◌+◌, ℕ, List, length, inl}
+use Rattle.cdc_outside.specs.Disk.{Image, OneWrite, LeavesOnly}
 use Rattle.cdc_outside.proofs.Moments.{joined, weaker}
 use Rattle.std.proofs.lemmas.Result.{on_ok_weaker}
-use Rattle.cdc_cell.specs.Record.{IsClosing, IsShut, IsOldOrNew, HasNewRecord}
+use Rattle.cdc_cell.specs.Record.{IsClosing, IsShut, IsOldOrNew}
 use Rattle.cdc_cell.proofs.Steps.{IsFilled, closing_old, filling_old, is_filled, opening, opened_new}
 use Rattle.cdc_cell.proofs.stages.write_record.Goals as goal
 

@@ -1,10 +1,10 @@
-use Rattle.std.proofs.Common.{◌≡◌, ◌<◌, ◌≤◌, ◌+◌, ℕ, List, length, take, drop, Option, Some, OnOk, sym, ◌∙◌, ap, subst, arith, length-take}
+use Rattle.std.proofs.Common.{◌≡◌, inl, inr, ◌≤◌, ◌+◌, ℕ, List, length, take, drop, Some, sym, ◌∙◌, ap, arith, length-take}
 use Rattle.std.proofs.lemmas.Bool.{cases_lt}
 use Rattle.std.proofs.lemmas.Grind.{same_number_lists}
 use Rattle.std.proofs.lemmas.Result.{on_ok_weaker}
 use Rattle.cdc_outside.proofs.Pieces.{on_ok}
 use Rattle.cdc_outside.specs.Disk.{Image}
-use Rattle.cdc_cell.specs.Slot.{slot_length, slot_payload}
+use Rattle.cdc_cell.specs.Slot.{slot_length}
 use Rattle.cdc_cell.specs.Record.{kept_record}
 use Rattle.cdc_cell.specs.Cell.{length_in, payload_in}
 use Rattle.cdc_cell.specs.declared.cell.Kept.{Kept}
@@ -29,5 +29,5 @@ returns-in-Some-clause-loaded g c = λ told knows.
       | inr none ↦
           on_ok c.load_payload.result
           (same_number_lists c.load_payload.new.into (take count (drop c.args.at (payload_in (kept_record seen)))) (omega (arith, c.load_payload.auto.into, length-take count (drop c.args.at (payload_in (kept_record seen)))))
-              (λ k lt. absurd (omega (arith, c.load_payload.auto.into))))
+          (λ k lt. absurd (omega (arith, c.load_payload.auto.into))))
     ]

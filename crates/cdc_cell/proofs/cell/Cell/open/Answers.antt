@@ -1,4 +1,4 @@
-use Rattle.std.proofs.Common.{◌≡◌, ◌⊎◌, inl, inr, Option, sym, ◌∙◌, ap, ap₂}
+use Rattle.std.proofs.Common.{◌≡◌, inr, sym, ◌∙◌, ap}
 use Rattle.cdc_outside.specs.Disk.{Image}
 use Rattle.cdc_outside.specs.declared.disk_file.DiskFile.TheVariants.{SlotA, SlotB}
 use Rattle.cdc_cell.specs.Slot.{head_of}

@@ -1,7 +1,6 @@
-use Rattle.std.proofs.Common.{◌≡◌, ◌<◌, ℕ, List, Some, sym, ◌∙◌, ap, subst, refl}
+use Rattle.std.proofs.Common.{subst, refl}
 use Rattle.cdc_outside.specs.Disk.{Image, LeavesOnly}
 use Rattle.cdc_outside.specs.declared.disk_file.DiskFile.{DiskFile}
-use Rattle.cdc_cell.specs.Cell.{target_of}
 use Rattle.cdc_cell.specs.Record.{IsOldOrNew, IsReady, HasNewRecord}
 use Rattle.cdc_cell.proofs.Ready.{ready}
 use Rattle.cdc_cell.proofs.Known.{knows_new}
