@@ -10,8 +10,9 @@ use Rattle.cdc_cell.specs.declared.cell.Cell.{Cell}
 use Rattle.cdc_cell.specs.declared.cell.Kept.{Kept}
 use Rattle.cdc_cell.specs.declared.slot.SlotHead.{SlotHead}
 
-abbrev pub kept_of : Cell → Option Kept
-kept_of cell = cell.kept
+-- what a cell keeps of its record
+abbrev pub cell_kept_of : Cell → Option Kept
+cell_kept_of cell = cell.kept
 
 -- a store failed, so that the cell isn't used again
 abbrev pub has_failed : Cell → Bool
@@ -21,14 +22,17 @@ has_failed cell = cell.failed
 abbrev pub known_of : CellRecord → Kept
 known_of found = record { slot = found.slot; number = found.number; length = length found.payload }
 
+-- the payload's length, where a record is kept
 abbrev pub length_in : Option Kept → Option ℕ
 length_in None = None
 length_in (Some kept) = Some kept.length
 
+-- the record's number, 0 where none is kept
 abbrev pub number_in : Option Kept → ℕ
 number_in None = 0
 number_in (Some kept) = kept.number
 
+-- the slot that keeps the record
 abbrev pub slot_in : Option Kept → Option DiskFile
 slot_in None = None
 slot_in (Some kept) = Some kept.slot
@@ -38,12 +42,15 @@ abbrev pub target_in : Option Kept → DiskFile
 target_in None = SlotA
 target_in (Some kept) = other_slot kept.slot
 
+-- the length of a cell's payload, where it keeps a record
 abbrev pub length_of : Cell → Option ℕ
 length_of cell = length_in cell.kept
 
-abbrev pub number_of : Cell → ℕ
-number_of cell = number_in cell.kept
+-- the number of a cell's record, 0 where it keeps none
+abbrev pub cell_number_of : Cell → ℕ
+cell_number_of cell = number_in cell.kept
 
+-- the slot that keeps a cell's record
 abbrev pub slot_of : Cell → Option DiskFile
 slot_of cell = slot_in cell.kept
 
@@ -61,6 +68,7 @@ abbrev pub opened_from : Option DiskFile → Option Kept → Result Cell CellFau
 opened_from None kept = Ok record { kept = kept; failed = false }
 opened_from (Some slot) kept = Err (BadCell slot)
 
+-- the cell of an image, or its bad slot
 abbrev pub decided : Image → Result Cell CellFault
 decided image = opened_from (bad_slot image) (option_map known_of (kept_record image))
 

@@ -11,6 +11,7 @@ pub record CellRecord : Type 0 where
   pub number : ℕ
   pub payload : List ℕ
 
+-- the record of an open slot
 abbrev pub record_in : DiskFile → List ℕ → CellRecord
 record_in slot bytes = record { slot = slot; number = slot_number bytes; payload = slot_payload bytes }
 

@@ -11,12 +11,15 @@ number_at place bytes = from_le_bytes w64 (take 8 (drop place bytes))
 abbrev pub is_open : List ℕ → Bool
 is_open bytes = nat_le 17 (length bytes) && (slice_index bytes 0 == 1)
 
+-- a slot's number
 abbrev pub slot_number : List ℕ → ℕ
 slot_number bytes = number_at 1 bytes
 
+-- the length of a slot's payload
 abbrev pub slot_length : List ℕ → ℕ
 slot_length bytes = number_at 9 bytes
 
+-- a slot's payload
 abbrev pub slot_payload : List ℕ → List ℕ
 slot_payload bytes = take (slot_length bytes) (drop 17 bytes)
 

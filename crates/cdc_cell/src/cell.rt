@@ -32,7 +32,7 @@ pub struct Cell {
 }
 
 impl Cell {
-    ghost use Rattle.cdc_cell.specs.Cell.{number_of, slot_of, length_of};
+    ghost use Rattle.cdc_cell.specs.Cell.{cell_number_of, slot_of, length_of};
 
     /// A cell that knows this of its record.
     fn with(kept: Option<Kept>) -> Cell
@@ -68,7 +68,7 @@ impl Cell {
 
     /// The record's number, and 0 where none is kept.
     pub fn number(&self) -> u64
-        ensures { result ≡ number_of self.now }
+        ensures { result ≡ cell_number_of self.now }
     {
         match self.kept {
             Some(kept) => kept.number,
@@ -88,7 +88,7 @@ impl Cell {
 }
 
 impl Cell {
-    ghost use Rattle.cdc_cell.specs.Cell.{kept_of, has_failed, number_of, length_of, slot_of, target_of, Knows, payload_in};
+    ghost use Rattle.cdc_cell.specs.Cell.{cell_kept_of, has_failed, cell_number_of, length_of, slot_of, target_of, Knows, payload_in};
 
     /// Reads of the payload, from its byte `at` on. On a disk that doesn't tell its content, bytes that aren't
     /// there any more are left as they were.
@@ -112,7 +112,7 @@ impl Cell {
         number: u64,
         payload: &[u8],
     ) -> Result<(), DiskFault>
-        requires above { number_of self.old < number }
+        requires above { cell_number_of self.old < number }
         requires works { has_failed self.old ≡ false }
 
         // Where nothing was pending, a crash at any moment leaves the old record or the new one.
@@ -124,8 +124,8 @@ impl Cell {
         ensures durable { IsTrue D.tells → OnOk result (IsDurable (D.seen disk.new) (D.synced disk.new) (D.pending disk.new)) }
 
         ensures knows { IsTrue D.tells → Knows self.old (D.seen disk.old) → OnOk result (Knows self.new (D.seen disk.new)) }
-        ensures kept { OnOk result (kept_of self.new ≡ Some record { slot = target_of self.old; number = number; length = length payload.now }) }
-        ensures old_kept { OnErr result (kept_of self.new ≡ kept_of self.old) }
+        ensures kept { OnOk result (cell_kept_of self.new ≡ Some record { slot = target_of self.old; number = number; length = length payload.now }) }
+        ensures old_kept { OnErr result (cell_kept_of self.new ≡ cell_kept_of self.old) }
         ensures failed { has_failed self.new ≡ is_err result }
         ensures faults { RisesOnErr (D.faults disk.old) (D.faults disk.new) result }
     {
