@@ -74,6 +74,10 @@ points_of_the_log : map (λ (point : RestartPoint). (point.mark ∷ point.place.
     ≡ (0 ∷ 0 ∷ 0 ∷ []) ∷ (0 ∷ 265 ∷ 1 ∷ []) ∷ (10 ∷ 293 ∷ 1 ∷ []) ∷ (10 ∷ 435 ∷ 2 ∷ []) ∷ (10 ∷ 519 ∷ 1 ∷ []) ∷ (20 ∷ 603 ∷ 0 ∷ []) ∷ []
 points_of_the_log = refl
 
+-- a held branch has the mark before its Prepare as floor
+held_floors : (point_before first_point (map (stands 1 0 0 0) (Beat 5 ∷ prepare 2 ∷ Beat 9 ∷ prepare 1 ∷ [])) 5).held ≡ (id 1, 9) ∷ (id 2, 5) ∷ []
+held_floors = refl
+
 -- read from there on, numbering behind 1, the second transaction alone comes, and the first isn't repeated
 abbrev resumed : List NodeLog
 resumed = logs_behind (behind_the_beat ∷ []) (read_whole second_pass ∷ [])
