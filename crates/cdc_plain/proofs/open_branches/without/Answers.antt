@@ -19,3 +19,13 @@ loop-index-smaller c =
 pub returns : goal.returns
 returns c =
     sym (without_none c.args.xid.now c.loop-index.opened (rw c.as_slice.ensures at (sym c.index_of.ensures) ∙ c.in_default.is)) ∙ c.loop-index.invariant
+
+pub loop-index-preserved-in-Some : goal.loop-index-preserved-in-Some
+loop-index-preserved-in-Some c =
+    let w = without_at c.args.xid.now c.loop-index.opened c.in-Some.index (rw c.as_slice.ensures at (sym c.index_of.ensures) ∙ c.in-Some.is) in
+    rw c.remove.ensures.rest (w.others ∙ c.loop-index.invariant)
+
+pub loop-index-smaller-in-Some : goal.loop-index-smaller-in-Some
+loop-index-smaller-in-Some c =
+    let w = without_at c.args.xid.now c.loop-index.opened c.in-Some.index (rw c.as_slice.ensures at (sym c.index_of.ensures) ∙ c.in-Some.is) in
+    rw c.remove.ensures.rest w.smaller
