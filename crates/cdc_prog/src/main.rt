@@ -1,7 +1,8 @@
 //! The program `cdc`: the top call over real files and the standard streams.
 //!
-//! `cdc print FILE ..` reads one log a node, and writes the transactions of all of them to standard output. What it
-//! answers is `top`'s to say; here the words are read, the files opened and the status handed back.
+//! `cdc print FILE ..` reads one log a node, and writes the transactions of all of them to standard output;
+//! `cdc --help` lists the commands. What the program answers is `top`'s to say; here the words are read, the files
+//! opened and the status handed back.
 #![tactic(auto)]
 
 ghost use Rattle.std.specs.Prelude.{◌≡◌, IfOk, IfErr};

@@ -1,11 +1,11 @@
 //! The sources of the nodes.
 
-ghost use Rattle.std.specs.Prelude.{◌≡◌, ◌+◌, true, length, IfOk};
-ghost use Rattle.cdc_top.specs.Words as command;
+ghost use Rattle.std.specs.Prelude.{◌≡◌, ℕ, List, Some, length, IfOk};
+ghost use Rattle.cdc_config.specs.Words.{command_from};
 
 use cdc_base::{Memory, Text};
+use cdc_config::{Command, Refusal, command_of};
 use cdc_files::FileSource;
-use cdc_top::is_print;
 use std::alloc::Global;
 use std::fs::{Files, OpenFile};
 use std::os::unix::fs::FileExt;
@@ -17,11 +17,13 @@ pub fn open_nodes<F: FileExt + OpenFile + Drop, R: AllocGlobal + Files<File = F>
     rt: &R,
     words: &[Text],
 ) -> Result<Vec<FileSource<F>>, Memory>
-    ensures { IfOk result (λ nodes. command.is_print words.now ≡ true → length nodes.items + 1 ≡ length words.now) }
+    ensures { IfOk result (λ nodes. (files : List (List ℕ)) → command_from words.now ≡ Some (Command.Print files) → length nodes.items ≡ length files) }
 {
-    match words {
-        [_, files @ ..] if is_print(words) => open_each(rt, files),
-        _ => Ok(Vec::new(rt.alloc())),
+    match command_of(rt.alloc(), words) {
+        Ok(Command::Print(files)) => open_each(rt, files.as_slice()),
+        Ok(_) => Ok(Vec::new(rt.alloc())),
+        Err(Refusal::Memory) => Err(Memory),
+        Err(_) => Ok(Vec::new(rt.alloc())),
     }
 }
 

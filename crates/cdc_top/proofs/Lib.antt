@@ -6,5 +6,6 @@ mod OrderLength
 mod PairLists
 mod ReadLogs
 mod SmallLogs
+mod TextAnswers
 mod ThinLemmas
 mod Written

@@ -3,6 +3,7 @@ pub mod Call
 pub mod Logs
 pub mod Printing
 pub mod Small
+pub mod Texts
 pub mod Thin
 pub mod ThinReading
 pub mod Words

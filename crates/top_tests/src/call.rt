@@ -1,10 +1,14 @@
 //! Calls of the top call, and what they gave.
 
+ghost use Rattle.std.specs.Prelude.{◌≡◌, ℕ, List, Some, IsTrue, length, IfOk};
+ghost use Rattle.cdc_config.specs.Words.{command_from};
+
 use crate::expected::printed;
 use cdc_base::{Buffer, Memory, Text, TextList};
+use cdc_config::{Command, Refusal, command_of};
 use cdc_memory::{MemSink, MemSource};
 use cdc_samples::{Log, NotMade};
-use cdc_top::{is_print, top};
+use cdc_top::top;
 use std::alloc::Global;
 
 /// The most bytes of a file and of what is written.
@@ -73,10 +77,22 @@ pub fn print_words(alloc: Global, files: usize) -> Result<TextList, Memory> {
     Ok(words)
 }
 
+// Whether there is a source a file where the words are `print`.
+fn fits(alloc: Global, words: &[Text], nodes: usize) -> Result<bool, Memory>
+    ensures { IfOk result (λ fits. IsTrue fits → (files : List (List ℕ)) → command_from words.now ≡ Some (Command.Print files) → nodes ≡ length files) }
+{
+    match command_of(alloc, words) {
+        Ok(Command::Print(files)) => Ok(files.len() == nodes),
+        Ok(_) => Ok(true),
+        Err(Refusal::Usage) => Ok(true),
+        Err(_) => Err(Memory),
+    }
+}
+
 /// Calls with any words. Where they are `print`, there is to be a source a file.
 pub fn call_with(alloc: Global, words: &[Text], call: Call) -> Result<Seen, Memory> {
     let mut nodes = call.nodes;
-    if is_print(words) && nodes.len().checked_add(1) != Some(words.len()) {
+    if !fits(alloc, words, nodes.len())? {
         return Err(Memory);
     }
     let mut out = MemSink::new(alloc, call.room, call.out_fails.as_slice())?;

@@ -5,7 +5,7 @@ use std::test::Fail;
 
 #[test]
 fn words_that_are_no_command_are_refused(rt: HostRuntime) -> Result<(), Fail> {
-    let cases: [&[&str]; 10] = [
+    let cases: [&[&str]; 20] = [
         &[],
         &["print"],
         &["print", "-x"],
@@ -14,14 +14,46 @@ fn words_that_are_no_command_are_refused(rt: HostRuntime) -> Result<(), Fail> {
         &["prints", "n1"],
         &["PRINT", "n1"],
         &["", "n1"],
-        &["--help"],
-        &["run", "n1"],
+        &["--help", "print"],
+        &["--version", "--help"],
+        &["-h"],
+        &["--HELP"],
+        &["run", "c"],
+        &["list", "c"],
+        &["serve", "c"],
+        &["follow", "c"],
+        &["split", "c"],
+        &["purge", "c", "1", "1"],
+        &["seek", "c", "1", "1"],
+        &["drill", "1", "1", "1"],
     ];
     for (number, texts) in cases.iter().enumerate() {
         let words = words_of(rt.alloc(), texts)?;
         let call = call_of(rt.alloc(), Vec::new(rt.alloc()));
         let seen = call_with(rt.alloc(), words.as_slice(), call)?;
         assert!(rt; seen.is(2, b"", b"cdc: usage\n"), "words {number}");
+    }
+    Ok(())
+}
+
+/// What `--help` writes.
+const HELP: &[u8] = b"cdc print FILE ..: print the settled transactions of 1 to 256 nodes, one file a node\n\
+    cdc --help: print the commands\n\
+    cdc --version: print the name and the version\n";
+
+#[test]
+fn texts_are_printed(rt: HostRuntime) -> Result<(), Fail> {
+    let cases: [(&str, &[u8]); 2] = [("--help", HELP), ("--version", b"cdc 0.1.0\n")];
+    for (word, text) in cases {
+        let words = words_of(rt.alloc(), &[word])?;
+        let call = call_of(rt.alloc(), Vec::new(rt.alloc()));
+        let seen = call_with(rt.alloc(), words.as_slice(), call)?;
+        assert!(rt; seen.is(0, text, b""), "{word}");
+        let mut call = call_of(rt.alloc(), Vec::new(rt.alloc()));
+        call.out_fails.push(1)?;
+        let seen = call_with(rt.alloc(), words.as_slice(), call)?;
+        let front = text.starts_with(seen.out.written());
+        assert!(rt; seen.status == 9 && front && seen.err.written() == b"cdc: sink\n".as_slice(), "{word}");
     }
     Ok(())
 }
