@@ -87,6 +87,16 @@ unfolding rotate_event
 rotate_most at number fits =
     omega (arith, printed_size at 0 (4, Rotate 4 (file_name number)), rotate_size (file_name number), name_short number fits)
 
+pub rotate_exact : (at number : ℕ) → length (rotate_event at number) ≡ 34 + length (if ltb number 1000000 then digits 6 number else decimal number)
+unfolding rotate_event file_name
+rotate_exact at number =
+    omega (
+      arith,
+      printed_size at 0 (4, Rotate 4 (file_name number)),
+      rotate_size (file_name number),
+      length-append (codes "binlog.") (if ltb number 1000000 then digits 6 number else decimal number),
+    )
+
 -- ---- head, print and ROTATE
 
 head_by_most : (begins : Bool) → length (if begins then file_head else []) ≤ 123
@@ -116,6 +126,19 @@ module _ (rules : List Rename) (txn : Transaction) (spot : Spot) (run : List ℕ
         laid_size spot.at txn.seconds (printed_events rules txn),
         head_by_most spot.head,
         rotate_by_most spot.closes (spot.at + printed_length rules txn) (spot.file + 1) (omega arith),
+      )
+
+  -- a run is as long as its parts
+  pub run_size : (printed : ℕ) → printed ≡ printed_length rules txn
+      → length (run_at rules txn spot) ≡ printed + (length head_part + length rotate_part)
+  run_size printed is =
+      let print : List ℕ = printed_bytes rules txn spot.at in
+      omega (
+        arith,
+        is,
+        length-append head_part (print ++ rotate_part),
+        length-append print rotate_part,
+        laid_size spot.at txn.seconds (printed_events rules txn),
       )
 
   -- a run that begins a file has a head
