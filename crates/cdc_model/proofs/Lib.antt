@@ -44,3 +44,4 @@ mod OneFileEnd
 mod NodeFeeds
 mod WorkedLaws
 mod WorkedRestart
+mod Colons
