@@ -41,31 +41,27 @@ impl<F: FileExt + OpenFile + Drop> FileSource<F> {
     {
         let mut files = Vec::with_capacity(rt.alloc(), paths.len())?;
         for path in paths {
-            files.push(open_regular(rt, path.as_str()))?;
+            files.push(open_regular(rt, path.as_str()).map(Opened::new))?;
         }
-        FileSource::new(rt.alloc(), files)
+        Ok(FileSource::over(files))
     }
 
     /// These files, with none in the place of one that couldn't be opened.
-    pub fn new(alloc: Global, files: Vec<Option<F>>) -> Result<FileSource<F>, Memory>
+    fn over(files: Vec<Option<Opened<F>>>) -> FileSource<F>
         requires { length files.items < 2 ^ 32 }
-        ensures sizes { IfOk result (λ source. ⟦<FileSource<F> as Source>⟧.sizes source ≡ shares (length files.items)) }
-        ensures lowest { IfOk result (λ source. ⟦<FileSource<F> as Source>⟧.lowest source ≡ None) }
-        ensures highest { IfOk result (λ source. ⟦<FileSource<F> as Source>⟧.highest source ≡ None) }
-        ensures faults { IfOk result (λ source. ⟦<FileSource<F> as Source>⟧.faults source ≡ 0) }
+        ensures sizes { ⟦<FileSource<F> as Source>⟧.sizes result ≡ shares (length files.items) }
+        ensures lowest { ⟦<FileSource<F> as Source>⟧.lowest result ≡ None }
+        ensures highest { ⟦<FileSource<F> as Source>⟧.highest result ≡ None }
+        ensures faults { ⟦<FileSource<F> as Source>⟧.faults result ≡ 0 }
     {
-        let mut opened = Vec::with_capacity(alloc, files.len())?;
-        for file in files {
-            opened.push(file.map(Opened::new))?;
-        }
-        let all_open = opened.iter().all(|file| file.is_some());
-        Ok(FileSource {
-            files: opened,
+        let all_open = files.iter().all(|file| file.is_some());
+        FileSource {
+            files,
             all_open,
             lowest: None,
             highest: None,
             faults: 0,
-        })
+        }
     }
 
     /// One file, or none where it couldn't be opened.
@@ -76,8 +72,8 @@ impl<F: FileExt + OpenFile + Drop> FileSource<F> {
         ensures faults { IfOk result (λ source. ⟦<FileSource<F> as Source>⟧.faults source ≡ 0) }
     {
         let mut files = Vec::new(alloc);
-        files.push(file)?;
-        FileSource::new(alloc, files)
+        files.push(file.map(Opened::new))?;
+        Ok(FileSource::over(files))
     }
 
     /// How many calls failed.

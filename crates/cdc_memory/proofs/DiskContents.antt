@@ -1,10 +1,10 @@
 -- What the files of a disk hold after one of them was changed.
-use Rattle.std.proofs.Common.{◌≡◌, ◌≢◌, ◌⊎◌, inl, inr, ℕ, suc, ◌+◌, ◌<◌, ◌≤◌, Bool, true, false, List, [], ◌∷◌, ◌++◌, length, map, get_or, set, refl, sym, ◌∙◌, ap, subst, arith, true≢false, length-append}
+use Rattle.std.proofs.Common.{◌≡◌, ◌≢◌, inl, inr, ℕ, suc, ◌+◌, ◌<◌, ◌≤◌, true, false, List, [], ◌∷◌, ◌++◌, length, map, get_or, set, refl, sym, ◌∙◌, ap, subst, arith, true≢false, length-append}
 use Rattle.std.proofs.lemmas.Bool.{cases_Bool, cases_eq, cases_lt}
-use Rattle.std.proofs.lemmas.List.{get_or-map, map-set, get_or-set_same, get_or-set_other, get_or_past, length-map, length-set, get_or_append_left, get_or_at, same_lists}
+use Rattle.std.proofs.lemmas.List.{get_or-map, map-set, get_or-set_same, get_or-set_other, get_or_past, length-map, get_or_append_left, get_or_at}
 use Rattle.cdc_outside.specs.declared.disk_file.DiskFile.{DiskFile}
 use Rattle.cdc_outside.specs.declared.disk_file.DiskFile.TheVariants.{SlotA, SlotB, Log}
-use Rattle.cdc_outside.specs.Disk.{Image, same_file, with_file}
+use Rattle.cdc_outside.specs.Disk.{same_file, with_file}
 use Rattle.cdc_outside.proofs.Pending.{same_file_is, same_file_self, with_file_same, with_file_other}
 use Rattle.cdc_memory.specs.DiskFiles.{place_of, content_of}
 use Rattle.cdc_memory.specs.declared.mem_file.MemFile.{MemFile}

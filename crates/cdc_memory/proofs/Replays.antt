@@ -1,17 +1,16 @@
 -- Replay of one step more, and what it means for images and moments.
-use Rattle.std.proofs.Common.{◌≡◌, ◌⊎◌, inl, inr, ℕ, suc, zero, ◌+◌, ◌≤◌, ◌<◌, min, max, Bool, true, false, if◌then◌else◌, ◌||◌, nat_le, nat_lt, ◌&&◌}
-use Rattle.std.proofs.Common.{List, [], ◌∷◌, ◌++◌, length, get_or, take, drop, refl, sym, ◌∙◌, ap, subst, arith, length-append, length-take, length-drop, append_assoc}
-use Rattle.std.proofs.lemmas.Bool.{cases_Bool, cases_lt, cases_eq}
-use Rattle.std.proofs.lemmas.Bool.Decides.{nat_tests}
-use Rattle.std.proofs.lemmas.List.{take_more, take_all, take-append-le, get_or_append_left}
+use Rattle.std.proofs.Common.{◌≡◌, inl, inr, ℕ, ◌+◌, ◌<◌, min, Bool, true, false, if◌then◌else◌, ◌||◌, nat_le, nat_lt, ◌&&◌}
+use Rattle.std.proofs.Common.{List, [], ◌∷◌, ◌++◌, length, get_or, take, refl, sym, ◌∙◌, ap, subst, arith, length-append}
+use Rattle.std.proofs.lemmas.Bool.{cases_Bool, cases_lt}
+use Rattle.std.proofs.lemmas.List.{take_more, take_all, take-append-le}
 use Rattle.cdc_outside.specs.declared.disk_file.DiskFile.{DiskFile}
-use Rattle.cdc_outside.specs.Disk.{Image, Change, Wrote, CutTo, MayLeave, Elapses, same_file, with_file, overwritten, shortest, longest, is_written}
+use Rattle.cdc_outside.specs.Disk.{Image, Change, Wrote, CutTo, Elapses, same_file, with_file, shortest, is_written}
 use Rattle.cdc_outside.proofs.Changes.{is_written_more, shortest_wrote, shortest_cut}
 use Rattle.cdc_memory.specs.Moments.{stays_from_rest}
 use Rattle.cdc_outside.proofs.Pending.{as_synced, same_file_is, with_file_same, with_file_other}
 use Rattle.cdc_memory.specs.Replay.{Holding, at_rest, after_step, replayed, LeavesNow, LeavesSince, holding_of}
 use Rattle.cdc_memory.specs.declared.disk_record.DiskStep.{DiskStep}
-use Rattle.cdc_memory.specs.declared.disk_record.DiskStep.TheVariants.{Write, Cut, Sync}
+use Rattle.cdc_memory.specs.declared.disk_record.DiskStep.TheVariants.{Sync}
 
 pub replayed_more : (holding : Holding) (steps : List DiskStep) (step : DiskStep) → replayed holding (steps ++ step ∷ []) ≡ after_step (replayed holding steps) step
 replayed_more holding [] step = refl

@@ -1,4 +1,5 @@
 pub mod Calls
+pub mod CrashPick
 pub mod DiskFiles
 pub mod Door
 pub mod Link

@@ -1,5 +1,5 @@
 -- A disk in memory.
-use Rattle.std.specs.Prelude.{◌≡◌, ℕ, ◌+◌, ◌-◌, nat_lt, nat_le, ◌==◌, ◌||◌, not, ◌&&◌, Bool, false, List, Option, None, Some, length}
+use Rattle.std.specs.Prelude.{◌≡◌, ℕ, ◌-◌, nat_lt, nat_le, ◌==◌, ◌||◌, not, ◌&&◌, Bool, false, List, Option, None, Some, length}
 use Rattle.cdc_outside.specs.declared.disk_file.DiskFile.{DiskFile}
 use Rattle.cdc_outside.specs.declared.disk_file.DiskFile.TheVariants.{Log}
 use Rattle.cdc_outside.specs.Disk.{Image, Elapses, same_file}

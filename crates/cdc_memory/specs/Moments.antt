@@ -1,6 +1,6 @@
 -- Laws of a disk in memory: its moments, and that what is seen may stay.
-use Rattle.std.proofs.Common.{◌≡◌, ◌⊎◌, inl, inr, ℕ, suc, zero, ◌+◌, ◌-◌, ◌≤◌, ◌<◌, min, max, Bool, true, false, ◌||◌, nat_le, nat_lt, ◌&&◌}
-use Rattle.std.proofs.Common.{List, [], ◌∷◌, ◌++◌, length, get_or, take, drop, refl, sym, ◌∙◌, ap, subst, arith, length-append, length-take, length-drop, take_all}
+use Rattle.std.proofs.Common.{◌≡◌, inl, inr, ℕ, ◌≤◌}
+use Rattle.std.proofs.Common.{List, [], ◌∷◌, ◌++◌, length, take, sym, subst, arith, take_all}
 use Rattle.cdc_outside.specs.declared.disk_file.DiskFile.{DiskFile}
 use Rattle.std.proofs.lemmas.Bool.{cases_Bool}
 use Rattle.cdc_outside.specs.Disk.{Image, Change, MayLeave, Wrote, CutTo, same_file, with_file, overwritten}

@@ -1,5 +1,5 @@
 -- What a disk in memory holds, by replay of the steps that it has recorded.
-use Rattle.std.specs.Prelude.{◌≡◌, ℕ, ◌≤◌, List, [], ◌∷◌, ◌++◌, length, take}
+use Rattle.std.specs.Prelude.{ℕ, ◌≤◌, List, [], ◌∷◌, ◌++◌, length, take}
 use Rattle.cdc_outside.specs.declared.disk_file.DiskFile.{DiskFile}
 use Rattle.cdc_outside.specs.Disk.{Image, Change, Wrote, CutTo, MayLeave, with_file, overwritten}
 use Rattle.cdc_memory.specs.declared.disk_record.DiskStep.{DiskStep}

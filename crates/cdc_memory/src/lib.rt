@@ -9,6 +9,7 @@
 #![tactic(auto)]
 
 mod calls;
+mod crash;
 mod disk_files;
 mod disk_record;
 mod door;

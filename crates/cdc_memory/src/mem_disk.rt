@@ -47,7 +47,13 @@ impl MemDisk {
     /// The slots and the logs from 1 to `logs`, all empty, each with room for `room` bytes, and a record of at
     /// most `calls` changes. The k-th call (from 1, of any kind) fails for each k of `fails`. A write past the
     /// room, to log 0 or to a log that isn't there fails too, and so does a write or cut past the record's room.
-    pub fn new(alloc: Global, logs: u64, room: usize, calls: usize, fails: &[u64]) -> Result<MemDisk, Memory>
+    pub fn new(
+        alloc: Global,
+        logs: u64,
+        room: usize,
+        calls: usize,
+        fails: &[u64],
+    ) -> Result<MemDisk, Memory>
         ensures start { IfOk result (λ disk. (file : DiskFile) → start_of disk file ≡ []) }
         ensures steps { IfOk result (λ disk. steps_of disk ≡ []) }
         ensures left { IfOk result (λ disk. changes_left disk ≡ calls) }
@@ -113,7 +119,9 @@ impl MemDisk {
         ensures there { result ≡ false → place_of file < length self.now.files.files.items }
         ensures fits { result ≡ false → at + count ≤ self.now.files.room }
     {
-        self.bars_change() || !self.files.has(file) || self.files.room_behind(file, at) < count as u64
+        self.bars_change()
+            || !self.files.has(file)
+            || self.files.room_behind(file, at) < count as u64
     }
 }
 

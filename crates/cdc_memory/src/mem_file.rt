@@ -1,6 +1,6 @@
 //! The bytes of one file, with room reserved.
 
-ghost use Rattle.std.specs.Prelude.{◌≡◌, ◌+◌, ◌≤◌, [], length, take, vec_len, IfOk};
+ghost use Rattle.std.specs.Prelude.{◌≡◌, ◌+◌, ◌≤◌, ◌<◌, ◌++◌, [], ◌∷◌, length, take, vec_len, IfOk};
 ghost use Rattle.std.specs.Vec.{vec_capacity};
 ghost use Rattle.cdc_outside.specs.Disk.{overwritten};
 
@@ -68,5 +68,14 @@ impl MemFile {
     {
         self.bytes.clear();
         self.bytes.extend_from_slice(from).unwrap();
+    }
+
+    /// Adds one byte at the end.
+    pub fn push(&mut self, byte: u8)
+        requires { length self.old.bytes.items < self.old.room }
+        ensures bytes { self.new.bytes.items ≡ self.old.bytes.items ++ byte ∷ [] }
+        ensures room { self.new.room ≡ self.old.room }
+    {
+        self.bytes.push_reserved(byte);
     }
 }

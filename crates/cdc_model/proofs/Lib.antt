@@ -45,3 +45,4 @@ mod NodeFeeds
 mod WorkedLaws
 mod WorkedRestart
 mod Colons
+mod NodePoints

@@ -215,6 +215,7 @@ module _ (last : Key) (node : ℕ) (first : Start) (before behind : List LogEntr
             ap node_low_water_mark rest_reached ∙ mark_kept here.entry (left_by here (reverse sound_later)) ∙ sym (ap node_low_water_mark whole_reached);
         branches = rest_new ∙ sym whole_new;
         before = before;
+        number = omega (arith, numbers_count first (reverse before), length-reverse before);
         sound = whole_sound ∙ ap (λ (list : List LogEntry). before ++ list) (sym rest_sound);
         fault = λ ended.
             ap (λ (f : Option (Place × SortFault)). sort_or Sort f ended)

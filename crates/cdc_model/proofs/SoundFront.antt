@@ -6,13 +6,13 @@ use Rattle.cdc_model.specs.Records.{LogEntry, Start}
 use Rattle.cdc_model.specs.Start.{next, left_by}
 use Rattle.cdc_model.specs.Soundness.{entry_fault, sound_entries, EndsAt, IsLongestSoundFront, SoundIsLongest}
 
-pub left_append : (start : Start) (later earlier : List LogEntry) → left start (later ++ earlier) ≡ left (left start earlier) later
+pub left_append : (start : Start) (later earlier : List LogEntry) → left_by start (later ++ earlier) ≡ left_by (left_by start earlier) later
 left_append start [] earlier = refl
 left_append start (entry ∷ later) earlier = ap (next entry.kind) (left_append start later earlier)
 
 -- what a list of entries leaves is what the others leave behind its first
 pub left_behind : (start : Start) (entry : LogEntry) (later : List LogEntry)
-    → left (next entry.kind start) (reverse later) ≡ left start (reverse (entry ∷ later))
+    → left_by (next entry.kind start) (reverse later) ≡ left_by start (reverse (entry ∷ later))
 left_behind start entry later =
     sym (left_append start (reverse later) (entry ∷ [])) ∙ ap (left_by start) (sym (reverse_onto later entry []))
 

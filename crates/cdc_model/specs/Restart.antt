@@ -134,6 +134,7 @@ pub record ReadsTheRest (last : Key) (node : ℕ) (whole resumed : NodeLog) : Ty
   pub bound : node_low_water_mark (reached resumed) ≡ node_low_water_mark (reached whole)
   pub branches : node_branches last (node, resumed) ≡ node_branches last (node, whole)
   pub before : List LogEntry
+  pub number : resumed.start.entry ≡ whole.start.entry + length before
   pub sound : sound_entries whole.start whole.entries ≡ before ++ sound_entries resumed.start resumed.entries
   pub fault : (ended : Option (Place × NodeFault))
       → log_fault Sort resumed.start resumed.entries ended ≡ log_fault Sort whole.start whole.entries ended

@@ -49,7 +49,7 @@ pub record SpellsRow (kind : ℕ) (bytes : List ℕ) (body : Body) : Type 0 wher
 abbrev pub seen_row : ℕ → List ℕ → Row
 seen_row kind bytes = (kind, run_body kind bytes)
 
--- ---- the first row of a run: its type, the length of its body, the body's bytes, and the rest
+-- ---- the first row of a run
 
 -- the first row's type
 abbrev pub first_kind : List ℕ → ℕ

@@ -62,8 +62,9 @@ pub use reading_laws::{
 };
 pub use restart_laws::{
     latest_never_falls, one_latest_point, restart_gives_the_rest, restart_place_reads_the_rest,
-    restart_point_is_start, restart_point_stays, restart_reads_the_rest,
-    restarted_points_are_the_wholes, sound_numbers_end, start_is_restart_point,
+    restart_point_is_start, restart_point_stays, restart_points_stay, restart_reads_the_rest,
+    restarted_points_are_the_wholes, resumed_latest_is_the_wholes, sound_numbers_end,
+    start_is_restart_point,
 };
 pub use row_view::{RowView, Rows};
 pub use rows::RowList;

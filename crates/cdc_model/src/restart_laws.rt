@@ -2,6 +2,7 @@
 //! so that the check proves it.
 
 ghost use Rattle.cdc_model.specs.Restart.{StartIsRestartPoint, RestartPointStays, SoundNumbersEnd, OneLatestPoint, LatestNeverFalls, RestartPointIsStart, RestartReadsTheRest, RestartPlaceReadsTheRest, RestartedPointsAreTheWholes, RestartGivesTheRest};
+ghost use Rattle.cdc_model.specs.RestartNodes.{RestartPointsStay, ResumedLatestIsTheWholes};
 
 use cdc_event::rest_is_read;
 
@@ -59,4 +60,14 @@ pub fn restarted_points_are_the_wholes()
 /// transactions behind the first n.
 pub fn restart_gives_the_rest()
     ensures { RestartGivesTheRest }
+{}
+
+/// A law: where the logs of all nodes go on, their restart points stay such, also for a greater key.
+pub fn restart_points_stay()
+    ensures { RestartPointsStay }
+{}
+
+/// A law: the latest restart point of a reading that began at a restart point is that of the whole log.
+pub fn resumed_latest_is_the_wholes()
+    ensures { ResumedLatestIsTheWholes }
 {}

@@ -15,12 +15,7 @@ use cdc_model::{Branch, BranchList, Entry, EntryKind, NodeLog, Opened, StartingP
 use std::alloc::Global;
 
 /// An open branch as its commit leaves it, beside the number of the entry that began it.
-fn committed(
-    key: Key,
-    entry: u64,
-    seconds: u32,
-    opened: &Opened,
-) -> Result<(u64, Branch), Memory>
+fn committed(key: Key, entry: u64, seconds: u32, opened: &Opened) -> Result<(u64, Branch), Memory>
     requires { IsKeptKey key }
     ensures { IfOk result (λ b. b ∷ [] ≡ branch.committed key entry seconds (Some opened.now)) }
 {

@@ -1,6 +1,6 @@
 //! Rows of branches, and their bodies.
 
-ghost use Rattle.std.specs.Prelude.{◌≤◌, ◌^◌, length, IfOk};
+ghost use Rattle.std.specs.Prelude.{◌≡◌, ◌≤◌, ◌^◌, ◌++◌, ◌∷◌, [], length, IfOk, OnOk, OnErr};
 ghost use Rattle.std.specs.List.{AllByRecursion};
 ghost use Rattle.cdc_model.specs.Kept.{IsRow};
 ghost use Rattle.cdc_rename.specs.Names.{IsTableMap};
@@ -60,11 +60,13 @@ pub fn map_of(alloc: Global, db: &[u8], name: &[u8], rest: &[u8]) -> Result<Body
 /// One row more.
 pub fn add_row(rows: &mut RowRun, row: (u8, Body)) -> Result<(), Memory>
     requires { IsRow row }
+    ensures ok { OnOk result (rows.new ≡ rows.old ++ row ∷ []) }
+    ensures err { OnErr result (rows.new ≡ rows.old) }
 {
     rows.push(row.0, &row.1)
 }
 
-/// Row events with one body.
+/// Row events of one body.
 pub fn add_shared(rows: &mut RowRun, body: &Body, count: u32) -> Result<(), Memory>
     requires { IsRow (ROWS, body.now) }
 {

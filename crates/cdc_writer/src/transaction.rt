@@ -75,14 +75,7 @@ fn put_statement(
     if is_among(before, &statement) {
         return Ok(at);
     }
-    put_query(
-        alloc,
-        statement.database,
-        statement.text,
-        seconds,
-        at,
-        into,
-    )
+    put_query(alloc, statement.database, statement.text, seconds, at, into)
 }
 
 // Appends the branches' statements, each statement once.

@@ -7,10 +7,9 @@ use cdc_base::{Text, TextList};
 use cdc_files::{FileSource, HeldSource};
 use cdc_outside::{Source, read_whole};
 use std::alloc::Global;
-use std::fs;
 use std::fs::File;
-use std::slice;
 use std::test::Fail;
+use std::{fs, slice};
 
 // Whether a file of the pattern's 70,000 bytes is read whole, and then in any order.
 fn is_read(alloc: Global, file: File, want: &[u8]) -> Result<bool, Fail> {

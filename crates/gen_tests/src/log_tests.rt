@@ -108,14 +108,21 @@ fn commits_go_round(rt: HostRuntime) -> Result<(), Fail> {
 // Which nodes have transaction 1.
 #[test]
 fn a_draw_gives_the_first_node(rt: HostRuntime) -> Result<(), Fail> {
-    let rows: [(u64, u32, usize, usize); 4] =
-        [(7, 4, 3, 4), (0, 2, 1, 2), (1, 256, 215, 216), (2, 3, 2, 3)];
+    let rows: [(u64, u32, usize, usize); 4] = [
+        (7, 4, 3, 4),
+        (0, 2, 1, 2),
+        (1, 256, 215, 216),
+        (2, 3, 2, 3),
+    ];
     for (seed, nodes, first, second) in rows {
         let logs = logs_of(rt.alloc(), seed, nodes.clamp(1, 256), 1)?;
         for (index, log) in logs.as_slice().iter().enumerate() {
             let has = log.len() > 151;
             let node = index.saturating_add(1);
-            assert!(rt; has == (node == first || node == second), "seed {seed} node {node}");
+            assert!(rt;
+                has == (node == first || node == second),
+                "seed {seed} node {node}"
+            );
         }
     }
     Ok(())

@@ -88,41 +88,33 @@ fn name_of(command: Command) -> &'static str {
     }
 }
 
+/// What a payload asks for.
+fn asked(alloc: Global, payload: &[u8]) -> Result<&'static str, Fail> {
+    let payload = shared(alloc, payload)?;
+    Ok(name_of(read_command(&payload)?))
+}
+
+#[test]
+fn a_dump_has_eleven_bytes(rt: HostRuntime) -> Result<(), Fail> {
+    assert_eq!(rt; asked(rt.alloc(), DUMP)?, "dump");
+    assert_eq!(rt; asked(rt.alloc(), &DUMP[..11])?, "dump");
+    assert_eq!(rt; asked(rt.alloc(), &DUMP[..10])?, "unknown");
+    Ok(())
+}
+
+#[test]
+fn quit_stands_alone(rt: HostRuntime) -> Result<(), Fail> {
+    assert_eq!(rt; asked(rt.alloc(), b"\x01")?, "quit");
+    assert_eq!(rt; asked(rt.alloc(), b"\x01\x01")?, "unknown");
+    Ok(())
+}
+
 #[test]
 fn commands_are_told_apart(rt: HostRuntime) -> Result<(), Fail> {
-    assert_eq!(rt; name_of(read_command(&shared(rt.alloc(), DUMP)?)?), "dump");
-    assert_eq!(rt;
-        name_of(read_command(&shared(rt.alloc(), &DUMP[..11])?)?),
-        "dump"
-    );
-    assert_eq!(rt;
-        name_of(read_command(&shared(rt.alloc(), &DUMP[..10])?)?),
-        "unknown"
-    );
-    assert_eq!(rt;
-        name_of(read_command(&shared(rt.alloc(), b"\x01")?)?),
-        "quit"
-    );
-    assert_eq!(rt;
-        name_of(read_command(&shared(rt.alloc(), b"\x01\x01")?)?),
-        "unknown"
-    );
-    assert_eq!(rt;
-        name_of(read_command(&shared(rt.alloc(), b"\x0e")?)?),
-        "ping"
-    );
-    assert_eq!(rt;
-        name_of(read_command(&shared(rt.alloc(), b"\x15\x01\x02")?)?),
-        "register"
-    );
-    assert_eq!(rt;
-        name_of(read_command(&shared(rt.alloc(), b"\x031")?)?),
-        "unknown"
-    );
-    assert_eq!(rt;
-        name_of(read_command(&shared(rt.alloc(), b"")?)?),
-        "unknown"
-    );
+    assert_eq!(rt; asked(rt.alloc(), b"\x0e")?, "ping");
+    assert_eq!(rt; asked(rt.alloc(), b"\x15\x01\x02")?, "register");
+    assert_eq!(rt; asked(rt.alloc(), b"\x031")?, "unknown");
+    assert_eq!(rt; asked(rt.alloc(), b"")?, "unknown");
     Ok(())
 }
 

@@ -1,4 +1,4 @@
-use Rattle.std.proofs.Common.{◌≡◌, length, arith}
+use Rattle.std.proofs.Common.{arith}
 use Rattle.cdc_memory.proofs.DiskContents.{all_copied}
 use Rattle.cdc_memory.proofs.disk_files.DiskFiles.copy_from.Goals as goal
 

@@ -1,4 +1,4 @@
-use Rattle.std.proofs.Common.{◌≡◌, ℕ, List, take}
+use Rattle.std.proofs.Common.{ℕ, List, take}
 use Rattle.cdc_memory.proofs.DiskContents.{changed_file}
 use Rattle.cdc_memory.proofs.disk_files.DiskFiles.cut.Goals as goal
 

@@ -1,4 +1,4 @@
-use Rattle.std.proofs.Common.{◌≡◌, ℕ, List}
+use Rattle.std.proofs.Common.{ℕ, List}
 use Rattle.cdc_outside.specs.Disk.{overwritten}
 use Rattle.cdc_memory.proofs.DiskContents.{changed_file}
 use Rattle.cdc_memory.proofs.disk_files.DiskFiles.write.Goals as goal

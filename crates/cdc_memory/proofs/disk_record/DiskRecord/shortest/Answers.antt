@@ -1,4 +1,4 @@
-use Rattle.std.proofs.Common.{◌≡◌, ◌∙◌, sym, ap, take, get_or, length, ◌<◌, ◌+◌, List, subst, arith}
+use Rattle.std.proofs.Common.{◌≡◌, ◌∙◌, sym, ap, take, get_or, length, ◌<◌, List, subst}
 use Rattle.cdc_outside.specs.Disk.{shortest}
 use Rattle.cdc_memory.specs.Replay.{Holding, at_rest, replayed}
 use Rattle.cdc_memory.specs.declared.disk_record.DiskStep.{DiskStep}

@@ -1,8 +1,8 @@
-use Rattle.std.proofs.Common.{◌≡◌, ◌∙◌, sym, ap, subst}
+use Rattle.std.proofs.Common.{◌≡◌, ◌∙◌, sym, subst}
 use Rattle.cdc_outside.specs.Disk.{shortest}
 use Rattle.cdc_memory.specs.Replay.{after_step}
 use Rattle.cdc_memory.specs.declared.disk_record.DiskStep.{DiskStep}
-use Rattle.cdc_memory.proofs.Replays.{shortest_then_wrote, shortest_then_cut, shortest_then_other}
+use Rattle.cdc_memory.proofs.Replays.{shortest_then_wrote, shortest_then_cut}
 use Rattle.cdc_memory.proofs.disk_record.DiskStep.shortest_after.Goals as goal
 
 pub returns-in-Write : goal.returns-in-Write

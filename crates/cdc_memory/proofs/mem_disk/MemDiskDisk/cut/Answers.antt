@@ -1,10 +1,9 @@
-use Rattle.std.proofs.Common.{◌≡◌, ℕ, List, [], ◌∷◌, ◌++◌, length, take, inr, ◌∙◌, sym, ap, true, false, refl, true≢false}
-use Rattle.cdc_outside.specs.declared.disk_file.DiskFile.{DiskFile}
-use Rattle.cdc_outside.specs.Disk.{Image, Change, Wrote, CutTo, with_file, overwritten}
+use Rattle.std.proofs.Common.{◌≡◌, ℕ, List, take, inr, ◌∙◌, sym, ap, refl, true≢false}
+use Rattle.cdc_outside.specs.Disk.{Image, with_file}
 use Rattle.cdc_memory.specs.DiskFiles.{content_of}
 use Rattle.cdc_memory.specs.Replay.{Holding, holding_of, after_step}
 use Rattle.cdc_memory.specs.declared.disk_record.DiskStep.{DiskStep}
-use Rattle.cdc_memory.specs.declared.disk_record.DiskStep.TheVariants.{Write, Cut, Sync}
+use Rattle.cdc_memory.specs.declared.disk_record.DiskStep.TheVariants.{Cut}
 use Rattle.cdc_memory.proofs.Replays.{stepped, time_stepped, files_changed}
 use Rattle.cdc_memory.proofs.mem_disk.MemDiskDisk.cut.Goals as goal
 

@@ -1,4 +1,4 @@
-use Rattle.std.proofs.Common.{◌≡◌, List, ◌∙◌, sym, ap, length}
+use Rattle.std.proofs.Common.{◌≡◌, List, ◌∙◌, sym, ap}
 use Rattle.cdc_outside.specs.declared.disk_file.DiskFile.{DiskFile}
 use Rattle.cdc_outside.specs.Disk.{Image}
 use Rattle.cdc_memory.specs.DiskFiles.{content_of}

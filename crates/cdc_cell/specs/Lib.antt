@@ -1,0 +1,4 @@
+pub mod Cell
+pub mod Reading
+pub mod Record
+pub mod Slot
