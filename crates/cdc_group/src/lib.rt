@@ -12,6 +12,7 @@ mod grouper;
 mod misfit;
 mod sign;
 mod source;
+mod step;
 mod time;
 
 pub use error::GroupError;

@@ -21,7 +21,7 @@ pub(crate) enum Source<'a> {
 /// Appends the row of this type. On `Memory` nothing changes.
 pub(crate) fn push_row(rows: &mut RowRun, kind: u8, source: &Source<'_>) -> Result<(), Memory>
     requires { (body : Spelled) × Tells source.now body × IsRow (kind, body) }
-    ensures ok { (body : Spelled) → Tells source.now body → OnOk result (rows.new ≡ rows.old ++ (kind, body) ∷ []) }
+    ensures ok { (body : Spelled) → Tells source.now body → IsRow (kind, body) → OnOk result (rows.new ≡ rows.old ++ (kind, body) ∷ []) }
     ensures err { OnErr result (rows.new ≡ rows.old) }
 {
     match source {
