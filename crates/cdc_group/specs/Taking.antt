@@ -1,12 +1,14 @@
 -- What a grouper answers, over all events that it may have taken.
-use Rattle.std.specs.Prelude.{◌≡◌, ◌≢◌, ℕ, List, [], ◌∷◌, ◌++◌, Option, Some, None, Result, Ok, Err}
+use Rattle.std.specs.Prelude.{◌≡◌, ℕ, Bool, List, [], ◌∷◌, ◌++◌, Option, Some, None, Result, Ok, Err}
 use Rattle.std.specs.Option.{option_map, option_to_list}
 use Rattle.cdc_base.specs.declared.memory.Memory.{Memory as NoMemory}
 use Rattle.cdc_base.specs.declared.place.Place.{Place}
 use Rattle.cdc_event.specs.declared.event.Event.{Event}
+use Rattle.cdc_event.specs.File.{IsWhole}
 use Rattle.cdc_model.specs.declared.entry.EntryKind.{EntryKind}
 use Rattle.cdc_model.specs.declared.fault.GroupFault.{GroupFault}
 use Rattle.cdc_model.specs.Records.{LogEntry}
+use Rattle.cdc_model.specs.Row.{IsRow}
 use Rattle.cdc_model.specs.Sign.{SignedEvent, sign_of}
 use Rattle.cdc_model.specs.Group.{Fits}
 use Rattle.cdc_model.specs.Entries.{ReadsTo, CeasesToFit}
@@ -53,3 +55,8 @@ TakesEvent file event old new (Ok entry) =
     (fault_at old event.sign ≡ None) × (new ≡ gone_on old event.sign) × (entry ≡ entry_ended file old event)
 TakesEvent file event old new (Err (Fault fault)) = (fault_at old event.sign ≡ Some fault) × (new ≡ Stopped fault)
 TakesEvent file event old new (Err Memory) = (fault_at old event.sign ≡ None) × (new ≡ old)
+
+-- law: a whole event of a file is one of its type, of at most 2^27 bytes
+abbrev pub WholeEventsAreTaken : Type 0
+WholeEventsAreTaken = (first : Bool) (checksum : ℕ) (bytes : List ℕ) (event : Event)
+    → IsWhole first checksum bytes event → IsRow (event.header.kind, event.body)

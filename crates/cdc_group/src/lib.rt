@@ -9,6 +9,7 @@
 mod error;
 mod group;
 mod grouper;
+mod laws;
 mod misfit;
 mod sign;
 mod source;
@@ -17,3 +18,4 @@ mod time;
 
 pub use error::GroupError;
 pub use grouper::Grouper;
+pub use laws::whole_events_are_taken;
