@@ -66,9 +66,9 @@ fn push_parts(kind: u8, body: &[u8], into: &mut Buffer) -> Result<(), Memory>
     into.push(body)
 }
 
-// Gives the bytes away: few are copied, and the room stays; many go with their room. On `Memory` nothing changes.
-fn give_away(bytes: &mut Buffer, alloc: Global) -> Result<Blob, Memory>
-    ensures given { IfOk result (λ blob. blob ≡ bytes.old) }
+// Gives all bytes away: short ones are copied and their room stays, long ones go with their room.
+fn give_bytes(alloc: Global, bytes: &mut Buffer) -> Result<Blob, Memory>
+    ensures blob { IfOk result (λ blob. blob ≡ bytes.old) }
     ensures empty { OnOk result (bytes.new ≡ []) }
     ensures err { OnErr result (bytes.new ≡ bytes.old) }
 {
@@ -144,15 +144,23 @@ impl RowRun {
         }
     }
 
-    /// Gives the rows away, and is empty from then on. On `Memory` nothing changes. Short rows are copied to their
-    /// size, and the room stays; long ones go with their room.
+    /// Drops all rows; the room stays.
+    pub fn clear(&mut self)
+        ensures { self.new ≡ [] }
+    {
+        self.count = 0;
+        self.bytes.truncate(0);
+    }
+
+    /// Gives the rows away, and is empty then; on `Memory` nothing changes. Short rows are copied to their size, and
+    /// the room stays; long ones go with their room.
     pub fn finish(&mut self, alloc: Global) -> Result<RowList, Memory>
         ensures list { IfOk result (λ list. list ≡ self.old) }
         ensures rows { IfOk result (AllByRecursion IsRow) }
         ensures empty { OnOk result (self.new ≡ []) }
         ensures err { OnErr result (self.new ≡ self.old) }
     {
-        let bytes = give_away(&mut self.bytes, alloc)?;
+        let bytes = give_bytes(alloc, &mut self.bytes)?;
         let count = self.count;
         self.count = 0;
         Ok(RowList::of_run(count, bytes))
