@@ -128,25 +128,27 @@ module _ (rules : List Rename) (txn : Transaction) (spot : Spot) (run : List ℕ
         rotate_by_most spot.closes (spot.at + printed_length rules txn) (spot.file + 1) (omega arith),
       )
 
-  -- a run is as long as its parts
-  pub run_size : (printed : ℕ) → printed ≡ printed_length rules txn
-      → length (run_at rules txn spot) ≡ printed + (length head_part + length rotate_part)
-  run_size printed is =
-      let print : List ℕ = printed_bytes rules txn spot.at in
-      omega (
-        arith,
-        is,
-        length-append head_part (print ++ rotate_part),
-        length-append print rotate_part,
-        laid_size spot.at txn.seconds (printed_events rules txn),
-      )
-
   -- a run that begins a file has a head
   pub run_begins : run ≡ run_at rules txn spot → spot.head ≡ true → 123 ≤ length run
   run_begins is head =
       let print : List ℕ = printed_bytes rules txn spot.at in
       let part : length head_part ≡ 123 = ap (λ (b : Bool). length (if b then file_head else [])) head ∙ head_size in
       omega (arith, ap length is, length-append head_part (print ++ rotate_part), part)
+
+-- a run is as long as its parts
+pub run_size : (rules : List Rename) (txn : Transaction) (spot : Spot) (printed : ℕ) → printed ≡ printed_length rules txn
+    → length (run_at rules txn spot)
+    ≡ printed + (length (if spot.head then file_head else []) + length (if spot.closes then rotate_event (spot.at + printed) (spot.file + 1) else []))
+run_size rules txn spot printed is =
+    let head : List ℕ = if spot.head then file_head else [] in
+    let print : List ℕ = printed_bytes rules txn spot.at in
+    let rotate : List ℕ = if spot.closes then rotate_event (spot.at + printed_length rules txn) (spot.file + 1) else [] in
+    rw is (omega (
+      arith,
+      length-append head (print ++ rotate),
+      length-append print rotate,
+      laid_size spot.at txn.seconds (printed_events rules txn),
+    ))
 
 -- the unit of the run at a transaction's spot is the transaction's
 pub unit_is : (rules : List Rename) (rotation size : ℕ) (txn : Transaction) (before : Layout) (spot : Spot) (run : List ℕ) (unit : OutputUnit)
