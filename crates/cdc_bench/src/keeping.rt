@@ -35,6 +35,7 @@ enum Met {
 }
 
 // Keeps a row event's body; false where it is none, or too long.
+#[tactic(auto, using(crate::proofs::Spelled::rows_spelled))]
 fn push_row(run: &mut RowRun, kind: u8, bytes: &[u8]) -> Result<bool, Memory> {
     if !kind::is_rows(kind) || bytes.len() > BODY_MAX {
         return Ok(false);

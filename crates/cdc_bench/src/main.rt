@@ -89,18 +89,8 @@ fn do_work(alloc: Global, work: &Work) -> Result<Option<Tally>, NotMade>
     match work.task {
         Task::ReadRows => events_read(alloc, work),
         Task::CutRows => Ok(cut_events(alloc, &row_log(alloc, work.size)?, work.count)?),
-        Task::KeepRows => Ok(keep_events(
-            alloc,
-            &row_log(alloc, work.size)?,
-            work.count,
-            false,
-        )?),
-        Task::HoldRows => Ok(keep_events(
-            alloc,
-            &row_log(alloc, work.size)?,
-            work.count,
-            true,
-        )?),
+        Task::KeepRows => Ok(keep_events(alloc, &row_log(alloc, work.size)?, work.count, false)?),
+        Task::HoldRows => Ok(keep_events(alloc, &row_log(alloc, work.size)?, work.count, true)?),
         Task::MakeUnits => Ok(units_made(alloc, work)?),
     }
 }
