@@ -131,7 +131,15 @@ impl MemDisk {
         let mut left = DiskFiles::new(alloc, 0, room)?;
         for place in 0..self.files.number() {
             let file = file_at(place);
-            let bytes = left_by_crash(alloc, &self.history, file, pick, self.synced.bytes(file), self.files.bytes(file), room)?;
+            let bytes = left_by_crash(
+                alloc,
+                &self.history,
+                file,
+                pick,
+                self.synced.bytes(file),
+                self.files.bytes(file),
+                room,
+            )?;
             left.push(bytes)?;
         }
         Ok(left)

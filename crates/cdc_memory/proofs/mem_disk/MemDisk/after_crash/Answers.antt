@@ -27,4 +27,4 @@ returns-clause-image c =
     let disk = c.args.self.now in
     let held : Holding = held_by disk in
     λ file. subst (λ l. MayLeave (held.last_sync file) (held.pending file) l) (sym (c.in_ok-start.ensures.content file))
-        (pick_is_image c.args.pick held (stays_from_rest (start_of disk) (steps_of disk)) file)
+    (pick_is_image c.args.pick held (stays_from_rest (start_of disk) (steps_of disk)) file)
