@@ -3,7 +3,7 @@
 #
 # PROGRAM is the built `cdc_bench`, RUNS how often each is run (5 if left out). It needs python3, and says which of the
 # two is missing (status 2). The least time counts, in seconds of the processor, since other programs may run beside
-# it. For transactions of two branches, with a table map and ten row events of 100 and of 1,000 bytes each, a line
+# it. For transactions of two branches, with a table map and ten row events of 30, 100 and 1,000 bytes each, a line
 # gives the units, the events and the bytes that were made in a second, and how many times longer that takes than to
 # copy as many bytes in memory, 64 MiB at a time. (The rows share one body, which stays near the processor; the copy
 # reads and writes memory anew.) From each time that of a run over one unit is taken off, so that making the
@@ -69,7 +69,7 @@ def copy():
 
 
 each = copy()
-for size, count in ((100, 1_000_000), (1_000, 500_000)):
+for size, count in ((30, 1_000_000), (100, 1_000_000), (1_000, 500_000)):
     took = seconds(size, count) - seconds(size, 1)
     total = made(2 * (39 + 10 * size) + 118, count)
     print(f"row events of {size} bytes: {count} units in {1000 * took:.0f} ms, {count / took / 1e3:.0f} thousand/s, "

@@ -24,7 +24,7 @@ pub same_reply : (reply other : LoginReply) (before mid now left : List ℕ) (en
 same_reply reply other before mid now left ends e same h = subst (λ r. Replies r before now left ends) (sym e) (subst (λ w. Replies reply w now left ends) same h)
 
 -- bytes that were sent before the reply
-pub sent_before : (bytes : List ℕ) (reply : LoginReply) (before mid now left : List ℕ) (ends : LoginEnd) → mid ≡ before ++ bytes → Replies reply mid now left ends → Replies (behind bytes reply) before now left ends
+pub sent_before : (bytes : List ℕ) (reply : LoginReply) (before mid now left : List ℕ) (ends : LoginEnd) → mid ≡ before ++ bytes → Replies reply mid now left ends → Replies (reply_behind bytes reply) before now left ends
 sent_before bytes reply before mid now left In e h = (h.0, h.1 ∙ ap (λ w. w ++ reply.sent) e ∙ append_assoc before bytes reply.sent, h.2)
 sent_before bytes reply before mid now left Denied e h = (h.0, h.1 ∙ ap (λ w. w ++ reply.sent) e ∙ append_assoc before bytes reply.sent, h.2)
 sent_before bytes reply before mid now left BadPacket e h = (h.0, h.1 ∙ ap (λ w. w ++ reply.sent) e ∙ append_assoc before bytes reply.sent)

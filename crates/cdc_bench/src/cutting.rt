@@ -6,10 +6,10 @@ use cdc_cutter::{Cut, Cutter};
 use std::alloc::Global;
 
 /// The bytes of a piece.
-const PIECE: usize = 65_536;
+pub const PIECE: usize = 65_536;
 
 /// No log is as long.
-const FAR: u64 = 1 << 62;
+pub const FAR: u64 = 1 << 62;
 
 /// Feeds a piece and takes the events that are whole then; false where something else stands there.
 fn cut_piece(cutter: &mut Cutter, piece: &[u8], tally: &mut Tally) -> Result<bool, Memory> {

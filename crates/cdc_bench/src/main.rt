@@ -8,6 +8,9 @@
 //! `cdc_bench cut row SIZE COUNT` cuts at least as many from such logs, which are fed to a cutter in pieces of 65,536
 //! bytes as one file.
 //!
+//! `cdc_bench keep row SIZE COUNT` cuts as many from them in place and keeps their rows in runs of ten, each of which is
+//! given away as a branch's rows and dropped; `cdc_bench hold row SIZE COUNT` holds these to the end.
+//!
 //! `cdc_bench unit row SIZE COUNT` makes COUNT units, each behind the one before, of one transaction of two branches,
 //! which have a table map and ten row events of SIZE bytes each, and prints how many it made and how many bytes they
 //! had. Files are closed at 2^30 bytes.
@@ -18,6 +21,7 @@
 ghost use Rattle.std.specs.Prelude.{◌≤◌};
 
 mod cutting;
+mod keeping;
 mod reading;
 mod rows;
 mod tally;
@@ -25,6 +29,7 @@ mod units;
 mod words;
 
 use crate::cutting::cut_events;
+use crate::keeping::keep_events;
 use crate::reading::read_events;
 use crate::rows::row_log;
 use crate::tally::Tally;
@@ -84,6 +89,8 @@ fn do_work(alloc: Global, work: &Work) -> Result<Option<Tally>, NotMade>
     match work.task {
         Task::ReadRows => events_read(alloc, work),
         Task::CutRows => Ok(cut_events(alloc, &row_log(alloc, work.size)?, work.count)?),
+        Task::KeepRows => Ok(keep_events(alloc, &row_log(alloc, work.size)?, work.count, false)?),
+        Task::HoldRows => Ok(keep_events(alloc, &row_log(alloc, work.size)?, work.count, true)?),
         Task::MakeUnits => Ok(units_made(alloc, work)?),
     }
 }
@@ -94,6 +101,9 @@ fn print_done<R: Print>(rt: &R, task: Task, done: Tally) -> io::Result<()> {
         Task::ReadRows | Task::CutRows => {
             println!(rt; "read {} events {} bytes", done.count, done.bytes)
         }
+        Task::KeepRows | Task::HoldRows => {
+            println!(rt; "kept {} rows {} bytes", done.count, done.bytes)
+        }
         Task::MakeUnits => println!(rt; "made {} units {} bytes", done.count, done.bytes),
     }
 }
@@ -102,7 +112,7 @@ fn print_done<R: Print>(rt: &R, task: Task, done: Tally) -> io::Result<()> {
 fn answer<R: AllocGlobal + Eprint + Env + Print>(rt: &R) -> Result<u8, NotMade> {
     let words = words_of(rt)?;
     let Some(work) = work_of(words.as_slice()) else {
-        let _printed = eprintln!(rt; "usage: cdc_bench read|cut|unit row SIZE COUNT");
+        let _printed = eprintln!(rt; "usage: cdc_bench read|cut|keep|hold|unit row SIZE COUNT");
         return Ok(USAGE);
     };
     let Some(done) = do_work(rt.alloc(), &work)? else {

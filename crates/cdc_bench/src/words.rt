@@ -14,6 +14,10 @@ pub enum Task {
     ReadRows,
     /// The cutting of row events from pieces.
     CutRows,
+    /// The cutting of row events in place, which are kept in runs.
+    KeepRows,
+    /// The same, where the runs are held to the end.
+    HoldRows,
     /// The making of units.
     MakeUnits,
 }
@@ -55,12 +59,14 @@ fn task_of(word: &str) -> Option<Task> {
     match word {
         "read" => Some(Task::ReadRows),
         "cut" => Some(Task::CutRows),
+        "keep" => Some(Task::KeepRows),
+        "hold" => Some(Task::HoldRows),
         "unit" => Some(Task::MakeUnits),
         _ => None,
     }
 }
 
-/// What the words ask for: `read`, `cut` or `unit`, `row`, a row event's size and how many. None for any others.
+/// What the words ask for: `read`, `cut`, `keep`, `hold` or `unit`, `row`, a row event's size and how many. None for any others.
 pub fn work_of(words: &[Text]) -> Option<Work>
     ensures least { IfSome result (λ work. 19 ≤ work.size) }
     ensures most { IfSome result (λ work. work.size ≤ 2 ^ 27) }

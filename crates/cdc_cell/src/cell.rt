@@ -32,7 +32,7 @@ pub struct Cell {
 }
 
 impl Cell {
-    ghost use Rattle.cdc_cell.specs.Cell.{cell_number_of, slot_of, length_of};
+    ghost use Rattle.cdc_cell.specs.Cell.{cell_number_of, has_failed, slot_of, length_of};
 
     /// A cell that knows this of its record.
     fn with(kept: Option<Kept>) -> Cell
@@ -48,6 +48,7 @@ impl Cell {
     pub fn open<D: Disk>(disk: &mut D) -> Result<Cell, CellFault>
         ensures decided { IsTrue D.tells → (result ≡ Err CellFault.DiskFault) ⊎ (result ≡ decided (D.seen disk.old)) }
         ensures alone { IsTrue D.tells → IsLeftAlone D.seen D.synced D.pending D.may_leave D.moment D.left_since disk.old disk.new }
+        ensures works { IfOk result (λ cell. has_failed cell ≡ false) }
         ensures later { D.faults disk.old ≤ D.faults disk.new }
         ensures failed { result ≡ Err CellFault.DiskFault → Rose (D.faults disk.old) (D.faults disk.new) }
     {
@@ -181,7 +182,8 @@ fn load_payload<D: Disk>(
 
 /// The cell over slots with these heads.
 fn decide(first: Option<SlotHead>, second: Option<SlotHead>) -> Result<Cell, CellFault>
-    ensures { result ≡ decided_by first second }
+    ensures decided { result ≡ decided_by first second }
+    ensures works { IfOk result (λ cell. cell.failed ≡ false) }
 {
     match (first, second) {
         (None, None) => Ok(Cell::with(None)),
@@ -193,7 +195,8 @@ fn decide(first: Option<SlotHead>, second: Option<SlotHead>) -> Result<Cell, Cel
 
 /// The cell over two open slots.
 fn decide_both(one: SlotHead, two: SlotHead) -> Result<Cell, CellFault>
-    ensures { result ≡ decided_by (Some one) (Some two) }
+    ensures decided { result ≡ decided_by (Some one) (Some two) }
+    ensures works { IfOk result (λ cell. cell.failed ≡ false) }
 {
     if one.overruns {
         return Err(CellFault::BadCell(DiskFile::SlotA));
@@ -210,7 +213,8 @@ fn decide_both(one: SlotHead, two: SlotHead) -> Result<Cell, CellFault>
 
 /// The cell over one open slot, whose length has to be there.
 fn whole(slot: DiskFile, head: SlotHead) -> Result<Cell, CellFault>
-    ensures { result ≡ (if head.overruns then Err (CellFault.BadCell slot) else opened_from None (Some (kept_head slot head))) }
+    ensures opened { result ≡ (if head.overruns then Err (CellFault.BadCell slot) else opened_from None (Some (kept_head slot head))) }
+    ensures works { IfOk result (λ cell. cell.failed ≡ false) }
 {
     if head.overruns {
         return Err(CellFault::BadCell(slot));

@@ -1,3 +1,5 @@
+pub mod FileNames
 pub mod Share
 pub mod Stream
 pub mod Held
+pub mod Untold

@@ -55,4 +55,25 @@ impl<F: FileExt + OpenFile + Drop> Opened<F> {
         }
         Some(read)
     }
+
+    /// Writes all of these bytes from the byte `at` on.
+    pub fn write(&mut self, at: u64, from: &[u8]) -> Option<()> {
+        self.file.write_all_at(from, at).ok()?;
+        self.seen = self.seen.max(at.saturating_add(from.len() as u64));
+        Some(())
+    }
+
+    /// Keeps the first bytes alone. A shorter file isn't lengthened.
+    pub fn cut(&mut self, to: u64) -> Option<()> {
+        if to < self.length()? {
+            self.file.set_len(to).ok()?;
+            self.seen = to;
+        }
+        Some(())
+    }
+
+    /// Makes durable what it has.
+    pub fn sync(&self) -> Option<()> {
+        self.file.sync_all().ok()
+    }
 }

@@ -4,7 +4,7 @@ use Rattle.std.proofs.lemmas.Bool.{cases_Bool, cases_eq, cases_lt}
 use Rattle.std.proofs.lemmas.List.{get_or-map, map-set, get_or-set_same, get_or-set_other, get_or_past, length-map, get_or_append_left, get_or_at}
 use Rattle.cdc_outside.specs.declared.disk_file.DiskFile.{DiskFile}
 use Rattle.cdc_outside.specs.declared.disk_file.DiskFile.TheVariants.{SlotA, SlotB, Log}
-use Rattle.cdc_outside.specs.Disk.{same_file, with_file}
+use Rattle.cdc_outside.specs.Disk.{Image, same_file, with_file}
 use Rattle.cdc_outside.proofs.Pending.{same_file_is, same_file_self, with_file_same, with_file_other}
 use Rattle.cdc_memory.specs.DiskFiles.{place_of, content_of}
 use Rattle.cdc_memory.specs.declared.mem_file.MemFile.{MemFile}
@@ -113,3 +113,23 @@ all_copied files others size done =
 
     same : map bytes_of files ≡ map bytes_of others
     same = at files others size done
+
+-- one file more, whose bytes are those of an image
+pub imaged_more : (files : List MemFile) (file : MemFile) (place : ℕ) (own : DiskFile) (image : Image) → length files ≡ place → place_of own ≡ place → bytes_of file ≡ image own
+    → ((k : ℕ) (other : MemFile) (it : DiskFile) → k < place → place_of it ≡ k → bytes_of (get_or files k other) ≡ image it)
+    → (k : ℕ) (other : MemFile) (it : DiskFile) → k < place + 1 → place_of it ≡ k → bytes_of (get_or (files ++ file ∷ []) k other) ≡ image it
+imaged_more files file place own image size is here done k other it lt e = elim (cases_lt k place) [
+  | inl within ↦ ap bytes_of (get_or_append_left files (file ∷ []) other k (omega arith)) ∙ done k other it within e
+  | inr past ↦
+      let same : own ≡ it = place_is own it (omega arith) in
+      ap bytes_of (get_or_at files file [] other k (omega arith)) ∙ here ∙ ap image same
+]
+
+-- files that are an image, which has no bytes of others
+pub all_imaged : (files : List MemFile) (image : Image) → ((k : ℕ) (other : MemFile) (it : DiskFile) → k < length files → place_of it ≡ k → bytes_of (get_or files k other) ≡ image it)
+    → ((it : DiskFile) → length files ≤ place_of it → image it ≡ []) → (it : DiskFile) → content_of files it ≡ image it
+all_imaged [] image done none it = sym (none it (omega arith))
+all_imaged (one ∷ files) image done none it = elim (cases_lt (place_of it) (length (one ∷ files))) [
+  | inl within ↦ content_at (one ∷ files) it (place_of it) one refl within ∙ done (place_of it) one it within refl
+  | inr past ↦ content_past (one ∷ files) it past ∙ sym (none it past)
+]

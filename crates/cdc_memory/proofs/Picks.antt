@@ -3,7 +3,7 @@ use Rattle.std.proofs.Common.{◌≡◌, ℕ, suc, zero, ◌+◌, ◌≤◌, ◌
 use Rattle.std.proofs.lemmas.Bool.Decides.{nat_tests}
 use Rattle.std.proofs.lemmas.List.{get_or-take, take_more}
 use Rattle.cdc_outside.specs.Disk.{Change, Wrote, CutTo, MayLeave, shortest, longest, is_written}
-use Rattle.cdc_memory.specs.CrashPick.{marked, picked}
+use Rattle.cdc_memory.specs.CrashPick.{marked, crash_pick, picked}
 use Rattle.cdc_memory.specs.Replay.{Holding, LeavesNow}
 
 shortest_within : (synced : ℕ) (changes : List Change) → shortest synced changes ≤ synced
@@ -77,3 +77,16 @@ of_flags false false false synced seen changes may = marks 1 synced seen changes
 
 pub pick_is_image : (pick : ℕ) (holding : Holding) → LeavesNow holding holding.seen → LeavesNow holding (picked pick holding)
 pick_is_image pick holding may = λ file. of_flags (pick % 4 == 0) (pick % 4 == 1) (pick % 4 == 2) (holding.last_sync file) (holding.seen file) (holding.pending file) (may file)
+
+nothing_marked : (zero_ one two : Bool) (least : ℕ) (changes : List Change) → (if zero_ then take least [] else if one then [] else if two then marked 165 0 0 changes [] else marked 1 0 0 changes []) ≡ []
+nothing_marked true one two zero changes = refl
+nothing_marked true one two (suc least) changes = refl
+nothing_marked false true two least changes = refl
+nothing_marked false false true least changes = refl
+nothing_marked false false false least changes = refl
+
+-- nothing is picked of a file without bytes
+pub nothing_picked : (pick : ℕ) (synced seen : List ℕ) (changes : List Change) → synced ≡ [] → seen ≡ [] → crash_pick pick synced changes seen ≡ []
+nothing_picked pick synced seen changes was is =
+    ap (λ (l : List ℕ). crash_pick pick l changes seen) was ∙ ap (λ (l : List ℕ). crash_pick pick [] changes l) is
+    ∙ nothing_marked (pick % 4 == 0) (pick % 4 == 1) (pick % 4 == 2) (shortest 0 changes) changes

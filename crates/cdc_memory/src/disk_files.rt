@@ -1,6 +1,6 @@
 //! The files of a disk in memory.
 
-ghost use Rattle.std.specs.Prelude.{◌≡◌, ℕ, ◌+◌, ◌-◌, ◌≤◌, ◌<◌, ◌&&◌, not, true, nat_lt, [], length, take, get_or, IfOk, IfSome, MatchOption};
+ghost use Rattle.std.specs.Prelude.{◌≡◌, ℕ, ◌+◌, ◌-◌, ◌≤◌, ◌<◌, ◌&&◌, not, true, nat_lt, [], length, take, get_or, ◌++◌, ◌∷◌, OnOk, IfOk, IfSome, MatchOption};
 ghost use Rattle.cdc_outside.specs.declared.disk_file.DiskFile.{DiskFile};
 ghost use Rattle.cdc_outside.specs.declared.disk_file.DiskFile.TheVariants.{Log};
 ghost use Rattle.cdc_outside.specs.Disk.{same_file, with_file, overwritten};
@@ -48,6 +48,20 @@ impl DiskFiles {
         } else {
             None
         }
+    }
+
+    /// How many files there are.
+    pub fn number(&self) -> usize
+        ensures { result ≡ length self.now.files.items }
+    {
+        self.files.len()
+    }
+
+    /// How many bytes each may have.
+    pub fn room(&self) -> usize
+        ensures { result ≡ self.now.room }
+    {
+        self.room
     }
 
     /// Whether a file may be written: a slot, or a log that is there, from the first one on.
@@ -108,6 +122,27 @@ impl DiskFiles {
         }
     }
 
+    /// Adds a file behind the others.
+    pub fn push(&mut self, file: MemFile) -> Result<(), Memory>
+        requires { file.room ≡ self.old.room }
+        ensures files { OnOk result (self.new.files.items ≡ self.old.files.items ++ file ∷ []) }
+        ensures room { self.new.room ≡ self.old.room }
+    {
+        self.files.push(file)?;
+        Ok(())
+    }
+
+    /// The same files once more.
+    pub fn copy(&self, alloc: Global) -> Result<DiskFiles, Memory>
+        ensures content { IfOk result (λ files. content_of files.files.items ≡ content_of self.now.files.items) }
+        ensures number { IfOk result (λ files. length files.files.items ≡ length self.now.files.items) }
+        ensures room { IfOk result (λ files. files.room ≡ self.now.room) }
+    {
+        let mut files = DiskFiles::new(alloc, self.files.len(), self.room)?;
+        files.copy_from(self);
+        Ok(files)
+    }
+
     /// Puts the bytes of other files in the place of those that are there.
     pub fn copy_from(&mut self, other: &DiskFiles)
         requires number { length self.old.files.items ≡ length other.now.files.items }
@@ -119,5 +154,16 @@ impl DiskFiles {
         for place in 0..self.files.len() {
             self.files[place].set(other.files[place].bytes());
         }
+    }
+}
+
+/// The file that stands at a place.
+pub fn file_at(place: usize) -> DiskFile
+    ensures { place_of result ≡ place }
+{
+    match place {
+        0 => DiskFile::SlotA,
+        1 => DiskFile::SlotB,
+        _ => DiskFile::Log(place as u64 - 2),
     }
 }

@@ -90,6 +90,7 @@ pub struct DiskRecord {
     /// One for each change to come, with the room of a file.
     spare: Vec<MemFile>,
     room: usize,
+    size: usize,
     changed: bool,
     ghost rooms: { (place : ℕ) (other : MemFile) → place < length spare.items → (get_or spare.items place other).room ≡ room },
     ghost reserved: { length steps.items + 2 * length spare.items + (if changed then 1 else 0) ≤ vec_capacity steps },
@@ -105,6 +106,7 @@ impl DiskRecord {
         ensures steps { IfOk result (λ noted. noted.steps.items ≡ []) }
         ensures spare { IfOk result (λ noted. length noted.spare.items ≡ changes) }
         ensures room { IfOk result (λ noted. noted.room ≡ room) }
+        ensures size { IfOk result (λ noted. noted.size ≡ changes) }
         ensures changed { IfOk result (λ noted. noted.changed ≡ false) }
     {
         let steps = Vec::with_capacity(alloc, changes.checked_mul(2).ok_or(Memory)?)?;
@@ -116,8 +118,16 @@ impl DiskRecord {
             steps,
             spare,
             room,
+            size: changes,
             changed: false,
         })
+    }
+
+    /// How many changes it had room for when it was made.
+    pub fn size(&self) -> usize
+        ensures { result ≡ self.now.size }
+    {
+        self.size
     }
 
     /// Whether there is no room for another change.
@@ -134,6 +144,7 @@ impl DiskRecord {
         ensures steps { (piece : MemFile) × (piece.bytes.items ≡ from.now) × (self.new.steps.items ≡ self.old.steps.items ++ Write file at piece ∷ []) }
         ensures spare { length self.new.spare.items + 1 ≡ length self.old.spare.items }
         ensures room { self.new.room ≡ self.old.room }
+        ensures size { self.new.size ≡ self.old.size }
         ensures changed { self.new.changed ≡ true }
     {
         if let Some(mut piece) = self.spare.pop() {
@@ -149,6 +160,7 @@ impl DiskRecord {
         ensures steps { self.new.steps.items ≡ self.old.steps.items ++ Cut file to ∷ [] }
         ensures spare { length self.new.spare.items + 1 ≡ length self.old.spare.items }
         ensures room { self.new.room ≡ self.old.room }
+        ensures size { self.new.size ≡ self.old.size }
         ensures changed { self.new.changed ≡ true }
     {
         if let Some(_piece) = self.spare.pop() {
@@ -162,6 +174,7 @@ impl DiskRecord {
         ensures steps { self.new.steps.items ≡ (if self.old.changed then self.old.steps.items ++ Sync ∷ [] else self.old.steps.items) }
         ensures spare { self.new.spare.items ≡ self.old.spare.items }
         ensures room { self.new.room ≡ self.old.room }
+        ensures size { self.new.size ≡ self.old.size }
         ensures changed { self.new.changed ≡ false }
     {
         if self.changed {

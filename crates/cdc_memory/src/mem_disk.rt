@@ -12,7 +12,8 @@ ghost use Rattle.cdc_memory.specs.declared.disk_record.DiskStep.TheVariants.{Wri
 ghost use Rattle.cdc_memory.specs.Replay.{holding_of};
 
 use crate::calls::CallPlan;
-use crate::disk_files::DiskFiles;
+use crate::crash::left_by_crash;
+use crate::disk_files::{DiskFiles, file_at};
 use crate::disk_record::DiskRecord;
 use crate::files::read_bytes;
 use cdc_base::Memory;
@@ -43,6 +44,8 @@ pub struct MemDisk {
 
 impl MemDisk {
     ghost use Rattle.cdc_memory.specs.MemDisk.{start_of, steps_of, held_by, disk_calls_of, stop_of, file_room_of, changes_left, places_of, is_stopped, bars_change, bars_write};
+    ghost use Rattle.cdc_memory.specs.CrashPick.{picked};
+    ghost use Rattle.cdc_memory.specs.Replay.{LeavesNow};
 
     /// The slots and the logs from 1 to `logs`, all empty, each with room for `room` bytes, and a record of at
     /// most `calls` changes. The k-th call (from 1, of any kind) fails for each k of `fails`. A write past the
@@ -91,6 +94,55 @@ impl MemDisk {
         ensures { result ≡ (disk_calls_of self.now).faults }
     {
         self.calls.faults()
+    }
+
+    /// One outcome of a crash now, by the disk model: 0 what the last sync has, cut to the least length since; 1 what
+    /// is seen; 2 what is seen, with `a5` for each byte that was written since or that the file got since; 3 the
+    /// same with `01`. Other picks count modulo 4. The disk that it gives has the same room and record size, no
+    /// failing call and no stop.
+    pub fn after_crash(&self, alloc: Global, pick: u8) -> Result<MemDisk, Memory>
+        ensures picked { IfOk result (λ disk. start_of disk ≡ picked pick (held_by self.now)) }
+        ensures image { IfOk result (λ disk. LeavesNow (held_by self.now) (start_of disk)) }
+        ensures steps { IfOk result (λ disk. steps_of disk ≡ []) }
+        ensures room { IfOk result (λ disk. file_room_of disk ≡ file_room_of self.now) }
+        ensures places { IfOk result (λ disk. places_of disk ≡ places_of self.now) }
+        ensures left { IfOk result (λ disk. changes_left disk ≡ self.now.history.size) }
+        ensures calls { IfOk result (λ disk. disk_calls_of disk ≡ at_first []) }
+        ensures stop { IfOk result (λ disk. stop_of disk ≡ None) }
+    {
+        let start = self.left_by_crash(alloc, pick)?;
+        Ok(MemDisk {
+            synced: start.copy(alloc)?,
+            files: start.copy(alloc)?,
+            start,
+            history: DiskRecord::new(alloc, self.history.size(), self.files.room())?,
+            stop: None,
+            calls: CallPlan::new(alloc, &[])?,
+        })
+    }
+
+    /// The files of one outcome of a crash.
+    fn left_by_crash(&self, alloc: Global, pick: u8) -> Result<DiskFiles, Memory>
+        ensures content { IfOk result (λ left. (file : DiskFile) → content_of left.files.items file ≡ picked pick (held_by self.now) file) }
+        ensures number { IfOk result (λ left. length left.files.items ≡ length self.now.files.files.items) }
+        ensures room { IfOk result (λ left. left.room ≡ self.now.files.room) }
+    {
+        let room = self.files.room();
+        let mut left = DiskFiles::new(alloc, 0, room)?;
+        for place in 0..self.files.number() {
+            let file = file_at(place);
+            let bytes = left_by_crash(
+                alloc,
+                &self.history,
+                file,
+                pick,
+                self.synced.bytes(file),
+                self.files.bytes(file),
+                room,
+            )?;
+            left.push(bytes)?;
+        }
+        Ok(left)
     }
 
     /// Whether the stop bars the next call.

@@ -44,4 +44,5 @@ mod OneFileEnd
 mod NodeFeeds
 mod WorkedLaws
 mod WorkedRestart
+mod Colons
 mod NodePoints

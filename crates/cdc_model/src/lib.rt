@@ -23,6 +23,7 @@ mod row_view;
 mod rows;
 mod run;
 mod start;
+mod statement;
 mod transaction;
 mod unit;
 
@@ -69,5 +70,6 @@ pub use row_view::{RowView, Rows};
 pub use rows::RowList;
 pub use run::RowRun;
 pub use start::StartingPoint;
+pub use statement::{Statement, statement_in};
 pub use transaction::{Txn, TxnList};
 pub use unit::Unit;

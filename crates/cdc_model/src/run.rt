@@ -12,7 +12,6 @@ use cdc_base::{Blob, Buffer, Memory};
 use cdc_event::{Body, bytes_4, write_body};
 use std::alloc::Global;
 use std::marker::Model;
-use std::mem;
 
 /// The least bytes of a run that is given away as it is; a shorter one is copied, to its size.
 const MOVED_LEAST: usize = 4096;
@@ -65,6 +64,21 @@ fn push_parts(kind: u8, body: &[u8], into: &mut Buffer) -> Result<(), Memory>
 {
     into.push(&row_head(kind, body.len() as u32))?;
     into.push(body)
+}
+
+// Gives all bytes away: short ones are copied and their room stays, long ones go with their room.
+fn give_bytes(alloc: Global, bytes: &mut Buffer) -> Result<Blob, Memory>
+    ensures blob { IfOk result (λ blob. blob ≡ bytes.old) }
+    ensures empty { OnOk result (bytes.new ≡ []) }
+    ensures err { OnErr result (bytes.new ≡ bytes.old) }
+{
+    let length = bytes.len();
+    if length >= MOVED_LEAST {
+        return bytes.freeze_to(length);
+    }
+    let copied = Blob::copy_of(alloc, bytes.bytes())?;
+    bytes.truncate(0);
+    Ok(copied)
 }
 
 impl RowRun {
@@ -130,21 +144,25 @@ impl RowRun {
         }
     }
 
-    /// Gives the rows away, and is empty from then on, also on `Memory`. Short rows are copied to their size, and
+    /// Drops all rows; the room stays.
+    pub fn clear(&mut self)
+        ensures { self.new ≡ [] }
+    {
+        self.count = 0;
+        self.bytes.truncate(0);
+    }
+
+    /// Gives the rows away, and is empty then; on `Memory` nothing changes. Short rows are copied to their size, and
     /// the room stays; long ones go with their room.
     pub fn finish(&mut self, alloc: Global) -> Result<RowList, Memory>
         ensures list { IfOk result (λ list. list ≡ self.old) }
         ensures rows { IfOk result (AllByRecursion IsRow) }
-        ensures empty { self.new ≡ [] }
+        ensures empty { OnOk result (self.new ≡ []) }
+        ensures err { OnErr result (self.new ≡ self.old) }
     {
+        let bytes = give_bytes(alloc, &mut self.bytes)?;
         let count = self.count;
         self.count = 0;
-        if self.bytes.len() >= MOVED_LEAST {
-            let moved = mem::replace(&mut self.bytes, Buffer::new(alloc));
-            return Ok(RowList::of_run(count, moved.freeze()?));
-        }
-        let copied = Blob::copy_of(alloc, self.bytes.bytes());
-        self.bytes.truncate(0);
-        Ok(RowList::of_run(count, copied?))
+        Ok(RowList::of_run(count, bytes))
     }
 }

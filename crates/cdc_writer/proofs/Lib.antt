@@ -1,6 +1,5 @@
 mod Bodies
 mod Marks
-mod Colons
 mod Laid
 mod PrintedRows
 mod StatementsOnce

@@ -60,3 +60,6 @@ mark_printable at key short room = record {
   most = omega (arith, mark_size key);
   room = room;
 }
+
+pub six_digits : (number : ℕ) → length (digits 6 number) ≡ 6
+six_digits number = length-digits 6 number

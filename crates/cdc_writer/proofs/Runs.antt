@@ -87,6 +87,16 @@ unfolding rotate_event
 rotate_most at number fits =
     omega (arith, printed_size at 0 (4, Rotate 4 (file_name number)), rotate_size (file_name number), name_short number fits)
 
+pub rotate_exact : (at number : ℕ) → length (rotate_event at number) ≡ 34 + length (if ltb number 1000000 then digits 6 number else decimal number)
+unfolding rotate_event file_name
+rotate_exact at number =
+    omega (
+      arith,
+      printed_size at 0 (4, Rotate 4 (file_name number)),
+      rotate_size (file_name number),
+      length-append (codes "binlog.") (if ltb number 1000000 then digits 6 number else decimal number),
+    )
+
 -- ---- head, print and ROTATE
 
 head_by_most : (begins : Bool) → length (if begins then file_head else []) ≤ 123
@@ -124,6 +134,21 @@ module _ (rules : List Rename) (txn : Transaction) (spot : Spot) (run : List ℕ
       let print : List ℕ = printed_bytes rules txn spot.at in
       let part : length head_part ≡ 123 = ap (λ (b : Bool). length (if b then file_head else [])) head ∙ head_size in
       omega (arith, ap length is, length-append head_part (print ++ rotate_part), part)
+
+-- a run is as long as its parts
+pub run_size : (rules : List Rename) (txn : Transaction) (spot : Spot) (printed : ℕ) → printed ≡ printed_length rules txn
+    → length (run_at rules txn spot)
+    ≡ printed + (length (if spot.head then file_head else []) + length (if spot.closes then rotate_event (spot.at + printed) (spot.file + 1) else []))
+run_size rules txn spot printed is =
+    let head : List ℕ = if spot.head then file_head else [] in
+    let print : List ℕ = printed_bytes rules txn spot.at in
+    let rotate : List ℕ = if spot.closes then rotate_event (spot.at + printed_length rules txn) (spot.file + 1) else [] in
+    rw is (omega (
+      arith,
+      length-append head (print ++ rotate),
+      length-append print rotate,
+      laid_size spot.at txn.seconds (printed_events rules txn),
+    ))
 
 -- the unit of the run at a transaction's spot is the transaction's
 pub unit_is : (rules : List Rename) (rotation size : ℕ) (txn : Transaction) (before : Layout) (spot : Spot) (run : List ℕ) (unit : OutputUnit)

@@ -102,8 +102,8 @@ fn behind_length(txn: &Txn, names: &Names) -> u64
 }
 
 /// How many bytes a transaction's print has, wherever it stands; 2^64 - 1 where there are more than that.
-/// Takes no memory. Its time is that of the rows, and where branches have statements that of each pair of
-/// branches.
+/// Takes no memory. Its time is that of the branches, and under rules that of their rows; where branches have
+/// statements, at most that of each pair of branches.
 pub fn print_length(txn: &Txn, names: &Names) -> u64
     ensures { result ≡ min (printed_length names.now txn.now) (2 ^ 64 - 1) }
 {

@@ -1,6 +1,6 @@
 //! The event that closes an output file.
 
-ghost use Rattle.std.specs.Prelude.{◌≡◌, ◌+◌, ◌<◌, ◌≤◌, ◌^◌, ◌++◌, nat_lt, length, decimal, if◌then◌else◌, IfOk, OnOk};
+ghost use Rattle.std.specs.Prelude.{ℕ, ◌≡◌, ◌+◌, ◌<◌, ◌≤◌, ◌^◌, ◌++◌, nat_lt, length, decimal, if◌then◌else◌, IfOk, OnOk};
 ghost use Rattle.cdc_model.specs.Print.{digits};
 ghost use Rattle.cdc_model.specs.Output.{file_name, rotate_event};
 
@@ -44,16 +44,25 @@ fn name_of(alloc: Global, number: u64) -> Result<Blob, Memory>
     name.freeze()
 }
 
-/// How many bytes ROTATE has, where it names the file of this number.
-pub(crate) fn rotate_length(number: u64) -> usize
-    ensures { result ≤ 54 }
+// How many bytes a file's number has.
+#[tactic(auto, using(crate::proofs::Marks::six_digits))]
+fn number_length(number: u64) -> usize
+    ensures size { result ≡ length (if nat_lt number 1000000 then digits 6 number else decimal number) }
+    ensures short { result ≤ 20 }
 {
-    let digits = if number < LONG_NUMBER {
+    if number < LONG_NUMBER {
         NUMBER_DIGITS
     } else {
         itoa::Buffer::new().format(number).len()
-    };
-    HEADER_LENGTH + 8 + LOG.len() + digits
+    }
+}
+
+/// How many bytes ROTATE has, where it names the file of this number, wherever it stands.
+pub(crate) fn rotate_length(number: u64) -> usize
+    ensures size { (at : ℕ) → result ≡ length (rotate_event at number) }
+    ensures short { result ≤ 54 }
+{
+    HEADER_LENGTH + 8 + LOG.len() + number_length(number)
 }
 
 /// Appends the ROTATE event that stands at `at` and names the file of this number.

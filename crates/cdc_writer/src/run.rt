@@ -1,7 +1,9 @@
 //! All that one transaction appends to the output, as one run of bytes.
 
-ghost use Rattle.std.specs.Prelude.{◌≡◌, ◌+◌, ◌<◌, ◌≤◌, ◌^◌, ◌++◌, [], ◌↔◌, if◌then◌else◌, IsTrue, length, IfOk, IfErr, OnOk};
+ghost use Rattle.std.specs.Prelude.{ℕ, List, ◌≡◌, ◌+◌, ◌<◌, ◌≤◌, ◌^◌, ◌++◌, [], ◌↔◌, if◌then◌else◌, IsTrue, length, IfOk, IfErr, OnOk};
 ghost use Rattle.cdc_model.specs.Layout.{IsRotation, HasRoom, begins_file, next_file};
+ghost use Rattle.cdc_base.specs.declared.rename.Rename.{Rename};
+ghost use Rattle.cdc_model.specs.Records.{Transaction};
 ghost use Rattle.cdc_model.specs.Print.{printed_length};
 ghost use Rattle.cdc_model.specs.Output.{file_head, rotate_event};
 ghost use Rattle.cdc_model.specs.Unit.{unit_of, IsOutputStepFrom};
@@ -57,18 +59,35 @@ fn put_run(
     put_closing(alloc, spot, spot.at + length, into)
 }
 
-// How many bytes head, print and ROTATE have.
-fn room_for(spot: &Spot, length: u64) -> u64
-    requires file { spot.now.file ≤ 2 ^ 63 }
-    requires size { length ≤ 2 ^ 28 }
+// How many bytes the head has, where one is due.
+#[tactic(auto, using(crate::proofs::HeadBytes::head_size))]
+fn head_room(spot: &Spot) -> usize
+    ensures size { result ≡ length (if spot.now.head then file_head else []) }
+    ensures short { result ≤ 123 }
 {
-    let head = if spot.head { HEAD_LENGTH } else { 0 };
-    let rotate = if spot.closes {
+    if spot.head { HEAD_LENGTH } else { 0 }
+}
+
+// How many bytes the event has that closes the file, where it closes.
+fn closing_room(spot: &Spot) -> usize
+    requires { spot.now.file ≤ 2 ^ 63 }
+    ensures size { (end : ℕ) → result ≡ length (if spot.now.closes then rotate_event end (spot.now.file + 1) else []) }
+    ensures short { result ≤ 54 }
+{
+    if spot.closes {
         rotate_length(spot.file + 1)
     } else {
         0
-    };
-    length + (head + rotate) as u64
+    }
+}
+
+// How many bytes head, a print of so many bytes, and ROTATE have.
+fn room_for(spot: &Spot, printed: u64) -> u64
+    requires file { spot.now.file ≤ 2 ^ 63 }
+    requires size { printed ≤ 2 ^ 28 }
+    ensures { (rules : List Rename) (txn : Transaction) → printed ≡ printed_length rules txn → result ≡ length (run_at rules txn spot.now) }
+{
+    printed + (head_room(spot) + closing_room(spot)) as u64
 }
 
 // Head, print and ROTATE, in a room that is made once.

@@ -1,79 +1,13 @@
 //! Statements of the whole database.
 
-ghost use Rattle.std.specs.Prelude.{◌≡◌, ◌+◌, ◌≤◌, ◌&&◌, length, take, drop, IfSome, is_some, is_none};
+ghost use Rattle.std.specs.Prelude.{◌≡◌, is_some, is_none};
 ghost use Rattle.std.specs.List.{list_any};
 ghost use Rattle.std.specs.Option.{option_map};
-ghost use Rattle.cdc_model.specs.Print.{split_at_colons, statement_in, well_formed, row_statement, branch_statement, same_statement};
+ghost use Rattle.cdc_model.specs.Print.{row_statement, branch_statement};
 ghost use Rattle.cdc_writer.specs.Statements.{is_statement};
 
 use cdc_event::kind;
-use cdc_model::{Branch, RowList, RowView};
-
-/// What a marked text begins with.
-const MARK: &[u8] = b"DDL::";
-
-/// What stands between the database and the text.
-const COLONS: &[u8] = b"::";
-
-/// The most bytes of a database's name.
-const DATABASE_MAX: usize = 64;
-
-/// A statement: the database that it speaks of, and its text.
-#[derive(Clone, Copy, PartialEq)]
-pub(crate) struct Statement<'a> {
-    pub(crate) database: &'a [u8],
-    pub(crate) text: &'a [u8],
-}
-
-// Where the first two colons stand.
-fn colons_at(text: &[u8]) -> Option<usize>
-    ensures split { option_map (λ at. (take at text.now, drop 2 (drop at text.now))) result ≡ split_at_colons text.now }
-    ensures within { IfSome result (λ at. at + 2 ≤ length text.now) }
-{
-    for at in 0..text.len() {
-        if text[at..].starts_with(COLONS) {
-            return Some(at);
-        }
-    }
-    None
-}
-
-// What stands before and behind the first two colons.
-fn split(text: &[u8]) -> Option<Statement<'_>>
-    ensures { option_map (λ s. (s.database.now, s.text.now)) result ≡ split_at_colons text.now }
-{
-    let at = colons_at(text)?;
-    let (database, rest) = text.split_at(at);
-    let (_, text) = rest.split_at(COLONS.len());
-    Some(Statement { database, text })
-}
-
-// A database of at most 64 bytes, and a text of at least one.
-fn checked(statement: Statement<'_>) -> Option<Statement<'_>>
-    ensures { option_map (λ s. (s.database.now, s.text.now)) result ≡ well_formed (statement.entry.database.now, statement.entry.text.now) }
-{
-    if statement.database.len() <= DATABASE_MAX && !statement.text.is_empty() {
-        Some(statement)
-    } else {
-        None
-    }
-}
-
-/// The statement that a marked text spells: `DDL::`, the database of at most 64 bytes, `::`, and the text,
-/// which isn't empty.
-#[tactic(auto, unfolding(cdc_model::specs::Print::statement_in))]
-fn statement_in(text: &[u8]) -> Option<Statement<'_>>
-    ensures { option_map (λ s. (s.database.now, s.text.now)) result ≡ statement_in text.now }
-{
-    if !text.starts_with(MARK) {
-        return None;
-    }
-    let (_, rest) = text.split_at(MARK.len());
-    match split(rest) {
-        Some(statement) => checked(statement),
-        None => None,
-    }
-}
+use cdc_model::{Branch, RowList, RowView, Statement, statement_in};
 
 // The statement of a row of type 29, whose text stands behind one byte.
 #[tactic(auto, using(crate::proofs::RowViews::marked_some, crate::proofs::RowViews::marked_statement))]

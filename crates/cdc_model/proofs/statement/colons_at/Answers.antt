@@ -1,6 +1,6 @@
 use Rattle.std.proofs.Common.{sym, ◌∙◌}
-use Rattle.cdc_writer.proofs.Colons.{split_step, split_here, rest_whole}
-use Rattle.cdc_writer.proofs.statement.colons_at.Goals as goal
+use Rattle.cdc_model.proofs.Colons.{split_step, split_here, rest_whole}
+use Rattle.cdc_model.proofs.statement.colons_at.Goals as goal
 
 pub returns-then-starts_with-clause-split : goal.returns-then-starts_with-clause-split
 returns-then-starts_with-clause-split c =
