@@ -1,5 +1,5 @@
 -- From an answer to the promises of its status.
-use Rattle.std.proofs.Common.{◌≡◌, ℕ, zero, suc, get_or, ◌-◌, ◌<◌, Bool, true, false, IsTrue, List, [], ◌∷◌, length, Option, Some, None, IsSome, inl, inr, tt, arith, refl, sym, ap, ◌∙◌, subst, ⊎_elim}
+use Rattle.std.proofs.Common.{◌≡◌, ℕ, zero, suc, get_or, ◌-◌, ◌<◌, Bool, true, false, IsTrue, List, [], ◌∷◌, length, Option, Some, None, IsSome, inl, inr, arith, refl, sym, ap, ◌∙◌, subst, ⊎_elim}
 use Rattle.cdc_config.specs.declared.command.Command.{Command}
 use Rattle.cdc_config.specs.declared.command.Command.TheVariants as command
 use Rattle.cdc_config.specs.Words.{command_from}
@@ -42,7 +42,7 @@ is_some_command : (found : Option Command) → is_command_built found ≡ true �
 is_some_command found given none = apart (sym given ∙ ap is_command_built none)
 
 no_command : (found : Option Command) → IsSome found → found ≡ None → ⊥
-no_command None s none = absurd s
+no_command None s none = absurd (let e = s in cc)
 no_command (Some c) s none = absurd (let e = none in cc)
 
 -- among logs in the thin form there is none that isn't

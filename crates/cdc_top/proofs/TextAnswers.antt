@@ -1,5 +1,5 @@
 -- From what was written to the call's answer.
-use Rattle.std.proofs.Common.{◌≡◌, ℕ, ◌++◌, Bool, IsTrue, List, Option, Some, None, IsSome, refl, subst, sym, inl, inr, tt}
+use Rattle.std.proofs.Common.{◌≡◌, ℕ, ◌++◌, Bool, IsTrue, List, Option, Some, None, IsSome, refl, subst, sym, inl, inr}
 use Rattle.cdc_config.specs.declared.command.Command.{Command}
 use Rattle.cdc_config.specs.declared.command.Command.TheVariants as command
 use Rattle.cdc_config.specs.Words.{command_from}
@@ -26,11 +26,11 @@ text_answer told shown call found text Memory e o w = absurd w
 -- what isn't none is some
 pub some_command : (found : Option Command) → (found ≡ None → ⊥) → IsSome found
 some_command None n = absurd (n refl)
-some_command (Some c) n = tt
+some_command (Some c) n = refl
 
 -- words that are `print` are a command
 print_some : (words : List (List ℕ)) → IsPrint words → IsSome (command_from words)
-print_some words p = subst IsSome (sym p.1) tt
+print_some words p = subst IsSome (sym p.1) refl
 
 -- the one file of logs that were read is what `print` is to write
 print_asked : (told : Bool) (call : PrintCall) (logs : List NodeLog) → IsPrint call.words → (IsTrue told → AreThinLogs call.nodes logs) → IsAsked told call (unrotated_file logs)
