@@ -106,7 +106,11 @@ fn the_first_key_that_fails_is_named(rt: HostRuntime) -> Result<(), Fail> {
     for line in REFUSED.lines() {
         let (wanted, config) = line.split_once(" |").ok_or("a line")?;
         let text = config_of(rt.alloc(), config.trim_start())?;
-        assert_eq!(rt; config_shown(rt.alloc(), text.as_str())?.as_str(), wanted, "at {config}");
+        assert_eq!(rt;
+            config_shown(rt.alloc(), text.as_str())?.as_str(),
+            wanted,
+            "at {config}"
+        );
     }
     Ok(())
 }
@@ -116,7 +120,11 @@ fn both_ends_of_each_range_are_accepted(rt: HostRuntime) -> Result<(), Fail> {
     for line in ACCEPTED.lines() {
         let (wanted, config) = line.split_once(" |").ok_or("a line")?;
         let text = config_of(rt.alloc(), config.trim_start())?;
-        assert_eq!(rt; config_shown(rt.alloc(), text.as_str())?.as_str(), wanted, "at {config}");
+        assert_eq!(rt;
+            config_shown(rt.alloc(), text.as_str())?.as_str(),
+            wanted,
+            "at {config}"
+        );
     }
     Ok(())
 }

@@ -56,8 +56,14 @@ fn a_plan_has_its_paths(rt: HostRuntime) -> Result<(), Fail> {
     let plan = plan(rt.alloc(), WHOLE)?;
     let paths = paths(rt.alloc(), &plan)?;
     assert!(rt; plan.rotation == 1024 && plan.nodes == 2 && plan.outs == 2);
-    assert_eq!(rt; joined(rt.alloc(), paths.out_folders.as_slice())?.as_str(), "o,p,");
-    assert_eq!(rt; joined(rt.alloc(), paths.listen.as_slice())?.as_str(), ",h:1,");
+    assert_eq!(rt;
+        joined(rt.alloc(), paths.out_folders.as_slice())?.as_str(),
+        "o,p,"
+    );
+    assert_eq!(rt;
+        joined(rt.alloc(), paths.listen.as_slice())?.as_str(),
+        ",h:1,"
+    );
     assert_eq!(rt; paths.task_folder.as_str(), "t");
     let first = paths.node_files.get(0).ok_or("a node")?;
     assert_eq!(rt; joined(rt.alloc(), first.as_slice())?.as_str(), "a,b,");
@@ -78,7 +84,10 @@ fn a_plan_has_its_names_users_and_split(rt: HostRuntime) -> Result<(), Fail> {
     assert!(rt; hash[0] == 0 && hash[19] == 255);
     let split = plan.split.as_ref().ok_or("a split")?;
     assert_eq!(rt; split.from, 2);
-    assert_eq!(rt; joined(rt.alloc(), split.folders.as_slice())?.as_str(), "x,y,z,");
+    assert_eq!(rt;
+        joined(rt.alloc(), split.folders.as_slice())?.as_str(),
+        "x,y,z,"
+    );
     Ok(())
 }
 
@@ -86,6 +95,8 @@ fn a_plan_has_its_names_users_and_split(rt: HostRuntime) -> Result<(), Fail> {
 fn what_is_no_text_is_refused(rt: HostRuntime) -> Result<(), Fail> {
     let text = plan(rt.alloc(), BASE)?;
     assert!(rt; text.split.is_none());
-    assert!(rt; plan_of(rt.alloc(), b"# \xff\n").err() == Some(Refusal::Config(cdc_config::ConfigKey::Toml)));
+    assert!(rt;
+        plan_of(rt.alloc(), b"# \xff\n").err() == Some(Refusal::Config(cdc_config::ConfigKey::Toml))
+    );
     Ok(())
 }

@@ -104,7 +104,10 @@ pub fn config_of(alloc: Global, line: &str) -> Result<String, AllocError> {
 fn plan_shown(alloc: Global, plan: &Plan) -> Result<String, AllocError> {
     let users = plan.users.len();
     let split = plan.split.is_some();
-    format!(in alloc; "{} {} {} {} {users} {split}", plan.rotation, plan.window, plan.nodes, plan.outs)
+    format!(in alloc;
+        "{} {} {} {} {users} {split}",
+        plan.rotation, plan.window, plan.nodes, plan.outs
+    )
 }
 
 /// What is answered to a configuration: the numbers of its plan, or the key.

@@ -34,7 +34,10 @@ fn ruled(alloc: Global, rules: usize) -> Result<String, AllocError> {
 fn a_text_has_at_most_1_048_576_bytes(rt: HostRuntime) -> Result<(), Fail> {
     let text = commented(rt.alloc(), TEXT_MAX)?;
     assert_eq!(rt; text.len(), TEXT_MAX);
-    assert_eq!(rt; config_shown(rt.alloc(), text.as_str())?.as_str(), "536870912 16777216 1 1 0 false");
+    assert_eq!(rt;
+        config_shown(rt.alloc(), text.as_str())?.as_str(),
+        "536870912 16777216 1 1 0 false"
+    );
     let text = commented(rt.alloc(), TEXT_MAX + 1)?;
     assert_eq!(rt; config_shown(rt.alloc(), text.as_str())?.as_str(), "Toml");
     Ok(())

@@ -112,7 +112,11 @@ const NUMBERS: &str = "\
 fn each_command_is_read(rt: HostRuntime) -> Result<(), Fail> {
     for line in COMMANDS.lines() {
         let (words, wanted) = line.split_once(" = ").ok_or("a line")?;
-        assert_eq!(rt; command_shown(rt.alloc(), words)?.as_str(), wanted, "at {words}");
+        assert_eq!(rt;
+            command_shown(rt.alloc(), words)?.as_str(),
+            wanted,
+            "at {words}"
+        );
     }
     Ok(())
 }
@@ -120,7 +124,11 @@ fn each_command_is_read(rt: HostRuntime) -> Result<(), Fail> {
 #[test]
 fn other_words_are_no_command(rt: HostRuntime) -> Result<(), Fail> {
     for words in REFUSED.lines() {
-        assert_eq!(rt; command_shown(rt.alloc(), words)?.as_str(), "Usage", "at {words}");
+        assert_eq!(rt;
+            command_shown(rt.alloc(), words)?.as_str(),
+            "Usage",
+            "at {words}"
+        );
     }
     assert!(rt; matches!(command_of(rt.alloc(), &[]), Err(Refusal::Usage)));
     Ok(())
@@ -131,7 +139,11 @@ fn numbers_have_1_to_20_digits(rt: HostRuntime) -> Result<(), Fail> {
     for line in NUMBERS.lines() {
         let (number, wanted) = line.split_once(" = ").ok_or("a line")?;
         let words = format!(in rt.alloc(); "run c --order {number}")?;
-        assert_eq!(rt; command_shown(rt.alloc(), words.as_str())?.as_str(), wanted, "at {number}");
+        assert_eq!(rt;
+            command_shown(rt.alloc(), words.as_str())?.as_str(),
+            wanted,
+            "at {number}"
+        );
     }
     Ok(())
 }

@@ -88,9 +88,9 @@ fn a_list_of_files_is_one_source(rt: HostRuntime) -> Result<(), Fail> {
     assert!(rt; told(&mut source, 1) == Some(3) && told(&mut source, 2) == Some(10));
     let mut into = [0u8; 4];
     let read = ask(&mut source, 2, 7, &mut into)?;
-    assert!(rt; read == 3 && into[..3] == *b"789");
+    assert!(rt; read == 3 && into.starts_with(b"789"));
     let read = ask(&mut source, 3, 1, &mut into)?;
-    assert!(rt; read == 2 && into[..2] == *b"bc" && source.faults() == 0);
+    assert!(rt; read == 2 && into.starts_with(b"bc") && source.faults() == 0);
     Ok(())
 }
 

@@ -4,9 +4,7 @@ ghost use Rattle.std.specs.Prelude.{◌≡◌, ◌≤◌, ◌+◌, length};
 ghost use Rattle.cdc_event.specs.Length.{HasGoodLength};
 
 use cdc_base::Blob;
-use cdc_event::{
-    Event, Header, ReadError, check_length, read_body, read_owned_body, read_view,
-};
+use cdc_event::{Event, Header, ReadError, check_length, read_body, read_owned_body, read_view};
 use cdc_samples::blobs::blob_of;
 use cdc_samples::events::header;
 use std::alloc::{AllocError, Global};

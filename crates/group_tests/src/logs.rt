@@ -10,7 +10,8 @@ use std::test::Fail;
 const COLUMNS: &str = "H|H T(10)|H S(g1)|H S(g1) E(g1)|H Q(BEGIN)";
 
 /// Each event with what is answered to it in each column.
-const TABLE: &str = "05000000120900000013000000000000000000=Statement|Statement|Statement|Statement|Statement
+const TABLE: &str =
+    "05000000120900000013000000000000000000=Statement|Statement|Statement|Statement|Statement
 Q(XA_RECOVER)=Statement|Statement|Statement|Statement|Statement
 05000000210900000013000000000000000000=-|-|-|-|-
 05000000220900000013000000000000000000=-|-|-|-|-

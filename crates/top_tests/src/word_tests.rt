@@ -37,7 +37,8 @@ fn words_that_are_no_command_are_refused(rt: HostRuntime) -> Result<(), Fail> {
 }
 
 /// What `--help` writes.
-const HELP: &[u8] = b"cdc print FILE ..: print the settled transactions of 1 to 256 nodes, one file a node\n\
+const HELP: &[u8] =
+    b"cdc print FILE ..: print the settled transactions of 1 to 256 nodes, one file a node\n\
     cdc --help: print the commands\n\
     cdc --version: print the name and the version\n";
 
@@ -53,7 +54,10 @@ fn texts_are_printed(rt: HostRuntime) -> Result<(), Fail> {
         call.out_fails.push(1)?;
         let seen = call_with(rt.alloc(), words.as_slice(), call)?;
         let front = text.starts_with(seen.out.written());
-        assert!(rt; seen.status == 9 && front && seen.err.written() == b"cdc: sink\n".as_slice(), "{word}");
+        assert!(rt;
+            seen.status == 9 && front && seen.err.written() == b"cdc: sink\n".as_slice(),
+            "{word}"
+        );
     }
     Ok(())
 }

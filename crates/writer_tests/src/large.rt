@@ -7,7 +7,7 @@ ghost use Rattle.cdc_model.specs.Kept.{IsRow};
 use crate::printed::printed;
 use cdc_base::Memory;
 use cdc_event::Body;
-use cdc_model::{RowList, RowRun, Txn};
+use cdc_model::{Layout, RowList, RowRun, Txn};
 use cdc_rename::Names;
 use cdc_samples::blobs::part;
 use cdc_samples::layouts::NO_FILE;
