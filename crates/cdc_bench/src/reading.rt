@@ -29,6 +29,9 @@ fn event_at(log: &Blob, at: usize) -> Result<Option<Event>, Memory> {
         return Ok(None);
     }
     let body = log.part(at + HEADER_LENGTH, at + length)?;
+    if body.len() != length - HEADER_LENGTH {
+        return Ok(None);
+    }
     match read_owned_body(&header, body, 0) {
         Ok(event) => Ok(Some(event)),
         Err(ReadError::Fault(_)) => Ok(None),
