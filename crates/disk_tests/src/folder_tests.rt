@@ -1,0 +1,125 @@
+//! Disks over a folder.
+
+use cdc_base::Text;
+use cdc_files::FileDisk;
+use cdc_outside::{Disk, DiskFile};
+use std::fs;
+use std::fs::File;
+use std::test::Fail;
+
+// A disk over a folder.
+fn over<'a>(rt: &'a HostRuntime, folder: &str) -> Result<FileDisk<&'a HostRuntime, File>, Fail> {
+    let folder = Text::of(rt.alloc(), folder)?;
+    Ok(FileDisk::new(rt, rt.alloc(), &folder)?)
+}
+
+// Whether a file has exactly these bytes.
+fn has<D: Disk>(disk: &mut D, file: DiskFile, want: &[u8]) -> Result<bool, Fail> {
+    let mut into = [0u8; 16];
+    let length = disk.length(file)?;
+    let read = disk.read_at(file, 0, &mut into)?;
+    Ok(length == want.len() as u64 && into.get(..read) == Some(want))
+}
+
+// Writes what the tests read: slots, logs of short and long numbers, and eight logs more, so that some are closed.
+fn fill(rt: &HostRuntime, folder: &str) -> Result<(), Fail> {
+    let mut disk = over(rt, folder)?;
+    disk.write_at(DiskFile::SlotA, 0, b"abc")?;
+    disk.write_at(DiskFile::SlotA, 2, b"de")?;
+    for number in 1..9 {
+        disk.write_at(DiskFile::Log(number), 0, b"log")?;
+    }
+    disk.write_at(DiskFile::Log(1_234_567), 0, b"long")?;
+    disk.write_at(DiskFile::Log(1), 3, b"ging")?;
+    Ok(disk.sync()?)
+}
+
+#[test]
+fn what_is_written_is_read_by_another_disk(rt: HostRuntime) -> Result<(), Fail> {
+    fill(&rt, "store")?;
+    let mut disk = over(&rt, "store")?;
+    let rows: [(DiskFile, &[u8]); 6] = [
+        (DiskFile::SlotA, b"abde"),
+        (DiskFile::SlotB, b""),
+        (DiskFile::Log(1), b"logging"),
+        (DiskFile::Log(8), b"log"),
+        (DiskFile::Log(9), b""),
+        (DiskFile::Log(1_234_567), b"long"),
+    ];
+    for (file, want) in rows {
+        let same = has(&mut disk, file, want)?;
+        assert!(rt; same, "{file:?}");
+    }
+    assert!(rt; disk.faults() == 0);
+    Ok(())
+}
+
+#[test]
+fn files_have_their_names(rt: HostRuntime) -> Result<(), Fail> {
+    fill(&rt, "store")?;
+    let rows = [
+        ("store/slot.a", true),
+        ("store/slot.b", false),
+        ("store/binlog.000001", true),
+        ("store/binlog.000008", true),
+        ("store/binlog.1234567", true),
+    ];
+    for (path, want) in rows {
+        let there = fs::metadata(&rt, path).is_ok();
+        assert!(rt; there == want, "{path}");
+    }
+    Ok(())
+}
+
+#[test]
+fn a_file_is_cut(rt: HostRuntime) -> Result<(), Fail> {
+    fill(&rt, "store")?;
+    let mut disk = over(&rt, "store")?;
+    disk.cut(DiskFile::SlotA, 3)?;
+    disk.cut(DiskFile::SlotB, 0)?;
+    disk.cut(DiskFile::Log(2), 9)?;
+    disk.sync()?;
+    let slot = has(&mut disk, DiskFile::SlotA, b"abd")?;
+    let log = has(&mut over(&rt, "store")?, DiskFile::Log(2), b"log")?;
+    let bytes = fs::read(&rt, "store/slot.a")?;
+    assert!(rt; slot && log && bytes.as_slice() == b"abd".as_slice());
+    Ok(())
+}
+
+#[test]
+fn a_file_that_becomes_shorter_fails(rt: HostRuntime) -> Result<(), Fail> {
+    fill(&rt, "store")?;
+    let mut disk = over(&rt, "store")?;
+    let before = has(&mut disk, DiskFile::SlotA, b"abde")?;
+    fs::write(&rt, "store/slot.a", b"ab")?;
+    let length = disk.length(DiskFile::SlotA).is_err();
+    let read = disk.read_at(DiskFile::SlotA, 2, &mut [0u8; 2]).is_err();
+    assert!(rt; before && length && read && disk.faults() == 2);
+    Ok(())
+}
+
+// How many of the calls of a disk fail.
+fn failures<D: Disk>(disk: &mut D) -> u64 {
+    let length = disk.length(DiskFile::SlotA).is_err();
+    let read = disk.read_at(DiskFile::Log(1), 0, &mut [0u8; 2]).is_err();
+    let sync = disk.sync().is_err();
+    u64::from(length) + u64::from(read) + u64::from(sync)
+}
+
+#[test]
+fn a_folder_is_made_where_it_can_be(rt: HostRuntime) -> Result<(), Fail> {
+    fs::write(&rt, "plain", b"abc")?;
+    for (folder, want, made) in [
+        ("plain", 3, false),
+        ("none", 0, true),
+        ("none/two", 0, true),
+        ("no/two", 0, false),
+    ] {
+        let mut disk = over(&rt, folder)?;
+        let failed = failures(&mut disk);
+        let done = disk.write_at(DiskFile::SlotB, 0, b"abc").is_ok();
+        assert!(rt; failed == want && done == made, "{folder}: {failed}");
+        assert!(rt; disk.faults() == want + u64::from(!made), "{folder}");
+    }
+    Ok(())
+}
