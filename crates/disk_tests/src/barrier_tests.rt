@@ -67,7 +67,7 @@ impl<'a> Files for Without<'a> {
 
 // How many of two syncs succeed over a folder where this path can't be opened: the first one, and one behind a write.
 fn syncs(rt: &HostRuntime, path: &str) -> Result<u64, Fail> {
-    let folder = Text::of(rt.alloc(), "store")?;
+    let folder = Text::of(rt.alloc(), "fresh")?;
     let mut disk = FileDisk::new(Without { rt, path }, rt.alloc(), &folder)?;
     let first = disk.sync().is_ok();
     let _written = disk.write_at(DiskFile::SlotA, 0, b"abc").is_ok();
@@ -79,12 +79,12 @@ fn syncs(rt: &HostRuntime, path: &str) -> Result<u64, Fail> {
 #[test]
 fn the_folder_and_its_name_are_synced(rt: HostRuntime) -> Result<(), Fail> {
     let rows = [
-        ("store", 1),
-        ("store/..", 0),
-        ("store", 0),
-        ("store/slot.a", 0),
-        ("store/slot.b", 2),
-        ("store/binlog.000001", 2),
+        ("fresh", 1),
+        ("fresh/..", 0),
+        ("fresh", 0),
+        ("fresh/slot.a", 0),
+        ("fresh/slot.b", 2),
+        ("fresh/binlog.000001", 2),
     ];
     for (path, want) in rows {
         let done = syncs(&rt, path)?;
