@@ -3,7 +3,7 @@
 ghost use Rattle.std.specs.Prelude.{◌≤◌, length};
 
 use crate::pattern::{ask, pattern};
-use cdc_base::{Text, TextList};
+use cdc_base::Text;
 use cdc_files::{FileSource, HeldSource};
 use cdc_outside::{Source, read_whole};
 use std::alloc::Global;
@@ -70,20 +70,14 @@ fn told<S: Source>(source: &mut S, file: u32) -> Option<u64> {
     source.length(file).ok()
 }
 
-fn texts(alloc: Global, paths: &[&str]) -> Result<TextList, Fail> {
-    let mut list = TextList::new(alloc);
-    for path in paths {
-        list.push(Text::of(alloc, path)?)?;
-    }
-    Ok(list)
-}
-
 #[test]
 fn a_list_of_files_is_one_source(rt: HostRuntime) -> Result<(), Fail> {
     fs::write(&rt, "a", b"abc")?;
     fs::write(&rt, "b", b"0123456789")?;
-    let paths = texts(rt.alloc(), &["a", "b", "a"])?;
-    let mut source = FileSource::open(&rt, paths.as_slice())?;
+    let first = Text::of(rt.alloc(), "a")?;
+    let second = Text::of(rt.alloc(), "b")?;
+    let third = Text::of(rt.alloc(), "a")?;
+    let mut source = FileSource::open(&rt, &[first, second, third])?;
     assert!(rt; source.files() == Ok(3));
     assert!(rt; told(&mut source, 1) == Some(3) && told(&mut source, 2) == Some(10));
     let mut into = [0u8; 4];
