@@ -3,12 +3,12 @@ mod Worked
 mod WorkedEntries
 mod WorkedLogs
 mod Members
-mod OpenBranches
-mod Marks
+pub mod OpenBranches
+pub mod Marks
 mod SoundFront
 mod LogPrefix
-mod KeyList
-mod SettledKeys
+pub mod KeyList
+pub mod SettledKeys
 mod GlobalOrder
 mod OrderCut
 mod PrintLength
@@ -23,25 +23,25 @@ mod GroupReading
 mod GroupOutcome
 mod LogReading
 mod Units
-mod Openings
-mod XidOrder
-mod CommitLaws
+pub mod Openings
+pub mod XidOrder
+pub mod CommitLaws
 mod FaultOrder
-mod Fronts
-mod OwnBranches
-mod FeedLaws
+pub mod Fronts
+pub mod OwnBranches
+pub mod FeedLaws
 mod EventLaws
 mod RestOfLog
 mod GrammarRows
-mod SoundGrowth
-mod OutputGrowth
+pub mod SoundGrowth
+pub mod OutputGrowth
 mod Keeping
-mod RestartPoints
+pub mod RestartPoints
 mod RestartRest
 mod RestartAgain
 mod RestartOrder
 mod OneFileEnd
-mod NodeFeeds
+pub mod NodeFeeds
 mod WorkedLaws
 mod WorkedRestart
 mod NodePoints

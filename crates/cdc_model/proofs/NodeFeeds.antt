@@ -51,7 +51,7 @@ same_flat (key ∷ keys) branches others same =
     ap (λ (list : List CommittedBranch). list ++ flat_map (own_branches branches) keys) (same key (contains_first key keys))
     ∙ ap (λ (list : List CommittedBranch). own_branches others key ++ list) (same_flat keys branches others (λ k within. same k (contains_later key keys k within)))
 
-same_settled_branches : (mark : ℕ) (branches others : List CommittedBranch) → SameUnder mark branches others → settled_branches mark branches ≡ settled_branches mark others
+pub same_settled_branches : (mark : ℕ) (branches others : List CommittedBranch) → SameUnder mark branches others → settled_branches mark branches ≡ settled_branches mark others
 same_settled_branches mark branches others same =
     same_flat (settled_keys mark branches) branches others (λ key within. same key (settled_member mark branches key within).0)
     ∙ ap (flat_map (own_branches others)) (same_settled_keys mark branches others same)
