@@ -1,0 +1,4 @@
+mod Removal
+mod Waiting
+mod OneOrder
+mod Steps
