@@ -2,19 +2,19 @@ pub mod RunRows
 mod Worked
 mod WorkedEntries
 mod WorkedLogs
-mod Members
+pub mod Members
 mod OpenBranches
 mod Marks
 mod SoundFront
 mod LogPrefix
-mod KeyList
-mod SettledKeys
+pub mod KeyList
+pub mod SettledKeys
 mod GlobalOrder
 mod OrderCut
 mod PrintLength
 mod ClosedFiles
 mod Files
-mod SameXid
+pub mod SameXid
 mod GroupMachine
 mod GroupRuns
 mod GroupItems
@@ -27,9 +27,9 @@ mod Openings
 mod XidOrder
 mod CommitLaws
 mod FaultOrder
-mod Fronts
-mod OwnBranches
-mod FeedLaws
+pub mod Fronts
+pub mod OwnBranches
+pub mod FeedLaws
 mod EventLaws
 mod RestOfLog
 mod GrammarRows

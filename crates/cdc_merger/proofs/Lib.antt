@@ -1,0 +1,4 @@
+mod KeyTests
+mod Heads
+mod Following
+mod Growing
