@@ -13,11 +13,11 @@ use Rattle.cdc_group.specs.declared.group.Group.{Group}
 use Rattle.cdc_group.specs.Grouping.{Grouping, Goes, Stopped}
 
 -- what a group holds: its one row where that is a statement, or rows of tables
-abbrev pub content_of : Bool → List Row → Content
-content_of false rows = TableRows rows
-content_of true [] = TableRows []
-content_of true (row ∷ []) = OneStatement row
-content_of true (row ∷ other ∷ rows) = TableRows (row ∷ other ∷ rows)
+abbrev pub group_content : Bool → List Row → Content
+group_content false rows = TableRows rows
+group_content true [] = TableRows []
+group_content true (row ∷ []) = OneStatement row
+group_content true (row ∷ other ∷ rows) = TableRows (row ∷ other ∷ rows)
 
 -- a timestamp's value
 abbrev pub value_of_time : Option Time → Option ℕ
@@ -28,8 +28,8 @@ value_of_time (Some time) = Some time.value
 abbrev pub standing : GroupState → Xid → Bool → List Row → Grouping
 standing Out xid statement rows = Goes HasNone
 standing (Wait time) xid statement rows = Goes (HasTime time.value)
-standing (Xa time) xid statement rows = Goes (HasXa (value_of_time time) xid (content_of statement rows))
-standing (End time) xid statement rows = Goes (HasEnded (value_of_time time) xid (content_of statement rows))
+standing (Xa time) xid statement rows = Goes (HasXa (value_of_time time) xid (group_content statement rows))
+standing (End time) xid statement rows = Goes (HasEnded (value_of_time time) xid (group_content statement rows))
 standing Local xid statement rows = Goes (HasLocal rows)
 standing (Faulty fault) xid statement rows = Stopped fault
 

@@ -5,7 +5,7 @@ ghost use Rattle.cdc_event.specs.declared.body.Body.{Body as Spelled};
 ghost use Rattle.cdc_model.specs.Row.{IsRow};
 ghost use Rattle.cdc_model.specs.Misfit.{misfit_statement, misfit_row};
 ghost use Rattle.cdc_group.specs.Source.{Tells};
-ghost use Rattle.cdc_group.specs.State.{content_of};
+ghost use Rattle.cdc_group.specs.State.{group_content};
 
 use crate::source::{Source, push_row};
 use crate::time::Time;
@@ -60,7 +60,7 @@ impl Group {
     /// A statement may stand where there is no row yet.
     #[tactic(auto, using(crate::proofs::Contents::none_yet, crate::proofs::Contents::some_already))]
     pub(crate) fn misfit_statement(&self) -> Option<GroupFault>
-        ensures { result ≡ misfit_statement (content_of self.now.statement self.now.rows) }
+        ensures { result ≡ misfit_statement (group_content self.now.statement self.now.rows) }
     {
         if self.rows.is_empty() {
             None
@@ -72,7 +72,7 @@ impl Group {
     /// A row may stand where there is no statement.
     #[tactic(auto, using(crate::proofs::Contents::one_statement, crate::proofs::Contents::of_tables, crate::proofs::Contents::not_alone))]
     pub(crate) fn misfit_row(&self) -> Option<GroupFault>
-        ensures { result ≡ misfit_row (content_of self.now.statement self.now.rows) }
+        ensures { result ≡ misfit_row (group_content self.now.statement self.now.rows) }
     {
         if self.statement && self.rows.len() == 1 {
             Some(GroupFault::BadDdl)

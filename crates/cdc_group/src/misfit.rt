@@ -5,7 +5,7 @@ ghost use Rattle.cdc_model.specs.Records.{Row};
 ghost use Rattle.cdc_model.specs.Misfit.{misfit_outside, misfit_waiting, misfit_xa, misfit_ended, misfit_local, misfit_phase, unless_same};
 ghost use Rattle.cdc_group.specs.Seen.{sign_seen};
 ghost use Rattle.cdc_group.specs.Grouping.{fault_at};
-ghost use Rattle.cdc_group.specs.State.{content_of, value_of_time, grouping_of};
+ghost use Rattle.cdc_group.specs.State.{group_content, value_of_time, grouping_of};
 
 use crate::group::{Group, GroupState};
 use crate::sign::EventSign;
@@ -121,7 +121,7 @@ fn misfit_local(sign: &EventSign) -> Option<GroupFault>
 impl Group {
     // Inside an XA group.
     fn misfit_xa(&self, sign: &EventSign) -> Option<GroupFault>
-        ensures { (row : Row) → result ≡ misfit_xa self.now.xid (content_of self.now.statement self.now.rows) (sign_seen row sign.now) }
+        ensures { (row : Row) → result ≡ misfit_xa self.now.xid (group_content self.now.statement self.now.rows) (sign_seen row sign.now) }
     {
         match sign {
             EventSign::Gtid => None,
