@@ -29,4 +29,4 @@ cut_row law (Faulty fault) old new at end event setting cuts =
 pub take-requires : goal.take-requires
 take-requires c =
     cut_row c.whole_events_are_taken.ensures c.args.cutter.now.state c.args.cutter.now c.next.new.self c.in-Event.at c.in-Event.end c.in-Event.event c.in-Event.checksum
-    (subst (Cuts c.args.cutter.now.state c.args.cutter.now c.next.new.self) c.in-Event.is c.in_ok-next.ensures.cut)
+    (subst (Cuts c.args.cutter.now.state c.args.cutter.now c.next.new.self) c.in-Event.is c.in_ok-at.ensures.cut)
