@@ -62,7 +62,9 @@ def write_log(path, size):
     """A file of a log's events."""
     event = struct.pack("<IBIIIH", 0, 30, 1, size, 0, 0) + bytes(size - 19)
     with open(path, "wb") as sink:
-        sink.write(b"\xfebin" + event * (LOG // size))
+        sink.write(b"\xfebin")
+        for _ in range(LOG // size):
+            sink.write(event)
 
 
 def parse(path):

@@ -18,6 +18,12 @@ long=$(find crates -name '*.rt' -not -path '*/out/*' -exec wc -l {} + | awk '$2 
 places=$(grep -rnIE '(^|[^[:alnum:]_.])/(home|root|tmp|opt|usr|srv|mnt)/[[:alnum:]]' --include='*.rt' --include='*.antt' --include='*.md' --include='*.edit' . | head -n 3)
 [ -z "$places" ] || fail "paths of a machine: $places"
 
+# what a run leaves in a crate's folder isn't kept
+if left=$(git ls-files 'crates/*_tests' 2>/dev/null); then
+  left=$(echo "$left" | grep -vE '^crates/[a-z_]+/(src|proofs|specs|data)/' | head -n 3)
+  [ -z "$left" ] || fail "left by a run: $left"
+fi
+
 # crates.txt goes up the layers: a crate lists only crates above its own line
 below=$(awk -F: '
   /^#/ || !NF {next}

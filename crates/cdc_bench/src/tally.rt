@@ -1,6 +1,6 @@
 //! What was done.
 
-/// How many events were read, or units made, and how many bytes they had.
+/// How many events were read, or units made or published, and how many bytes they had.
 #[derive(Clone, Copy, Debug)]
 pub struct Tally {
     pub count: u64,

@@ -21,7 +21,7 @@ pub const ROW_MAX: u32 = 1 << 26;
 const ROWS: u32 = 10;
 
 /// The length from which on a file is closed.
-const ROTATION: u64 = 1 << 30;
+pub const ROTATION: u64 = 1 << 30;
 
 // A branch's rows: a table map, and row events of `size` bytes.
 fn branch_rows(alloc: Global, size: u32) -> Result<RowList, Memory>

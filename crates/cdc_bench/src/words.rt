@@ -20,15 +20,17 @@ pub enum Task {
     HoldRows,
     /// The making of units.
     MakeUnits,
+    /// The making of units that are published, so many by one commit.
+    PublishUnits { group: u64 },
 }
 
 /// A task, and how much of it.
 #[derive(Clone, Copy, Debug)]
 pub struct Work {
     pub task: Task,
-    /// The bytes of each row event, header included.
+    /// The bytes of each row event, header included; where units are published, those of each print.
     pub size: u32,
-    /// How many events are read, or units made.
+    /// How many events are read, or units made or published.
     pub count: u64,
 }
 
@@ -54,8 +56,23 @@ fn size_of(word: &str) -> Option<u32>
     }
 }
 
-/// The task of a word.
-fn task_of(word: &str) -> Option<Task> {
+/// How many units a commit publishes, in figures: one at least.
+fn group_of(word: &str) -> Option<u64> {
+    match word.parse::<u64>() {
+        Ok(group) if group > 0 => Some(group),
+        _ => None,
+    }
+}
+
+/// The task of the first two words.
+fn task_of(word: &str, which: &str) -> Option<Task> {
+    if word == "publish" {
+        let group = group_of(which)?;
+        return Some(Task::PublishUnits { group });
+    }
+    if which != "row" {
+        return None;
+    }
     match word {
         "read" => Some(Task::ReadRows),
         "cut" => Some(Task::CutRows),
@@ -66,14 +83,15 @@ fn task_of(word: &str) -> Option<Task> {
     }
 }
 
-/// What the words ask for: `read`, `cut`, `keep`, `hold` or `unit`, `row`, a row event's size and how many. None for any others.
+/// What the words ask for: `read`, `cut`, `keep`, `hold` or `unit`, `row`, a row event's size and how many, or
+/// `publish`, how many units a commit has, a print's size and how many. None for any others.
 pub fn work_of(words: &[Text]) -> Option<Work>
     ensures least { IfSome result (λ work. 19 ≤ work.size) }
     ensures most { IfSome result (λ work. work.size ≤ 2 ^ 27) }
 {
     match words {
-        [task, which, size, count] if which.as_str() == "row" => {
-            let task = task_of(task.as_str())?;
+        [task, which, size, count] => {
+            let task = task_of(task.as_str(), which.as_str())?;
             let size = size_of(size.as_str())?;
             let count = count.as_str().parse::<u64>().ok()?;
             Some(Work { task, size, count })

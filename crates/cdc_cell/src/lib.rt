@@ -15,3 +15,4 @@ mod stages;
 
 pub use cell::Cell;
 pub use fault::{CellFault, DiskFault};
+pub use reading::read_full;

@@ -159,3 +159,43 @@ pub passed_count : (left piece rest : List ℕ) (at : ℕ) → at + length left 
 passed_count left piece rest at h e =
     let all : length left + length piece ≡ length magic + length rest = sym (length-append left piece) ∙ (ap length e ∙ length-append magic rest) in
     omega arith
+
+-- a piece more moves the end of the bytes by no more than its length
+more_fed : (old : Cutting) (rest piece : List ℕ) → rest ≡ old.rest ++ piece → old.at + length rest ≤ old.at + length old.rest + length piece
+more_fed old rest piece is =
+    let size : length rest ≡ length old.rest + length piece = ap length is ∙ length-append old.rest piece in omega arith
+
+start_moves : (state : CutterState) (bytes piece : List ℕ) (old new : Cutting) → bytes ≡ old.rest ++ piece → TakesAtStart state bytes old new
+    → new.at + length new.rest ≤ old.at + length old.rest + length piece
+start_moves Start bytes piece old new is t =
+    let at : new.at ≡ old.at = ap (λ (v : Cutting). v.at) t.1 in
+    let rest : length new.rest ≡ length bytes = ap (λ (v : Cutting). length v.rest) t.1 in
+    let more : old.at + length bytes ≤ old.at + length old.rest + length piece = more_fed old bytes piece is in omega arith
+start_moves First bytes piece old new is t =
+    let at : new.at ≡ 4 = ap (λ (v : Cutting). v.at) t.1 in
+    let all : length bytes ≡ length magic + length new.rest = ap length t.0 ∙ length-append magic new.rest in
+    let more : old.at + length bytes ≤ old.at + length old.rest + length piece = more_fed old bytes piece is in omega arith
+start_moves Behind bytes piece old new is t = absurd t
+start_moves (Faulty fault) bytes piece old new is t =
+    let at : new.at ≡ old.at = ap (λ (v : Cutting). v.at) t.4 in
+    let rest : length new.rest ≡ length bytes = ap (λ (v : Cutting). length v.rest) t.4 in
+    let more : old.at + length bytes ≤ old.at + length old.rest + length piece = more_fed old bytes piece is in omega arith
+
+fed_moves : (old new : Cutting) (piece : List ℕ) → new ≡ record old { rest = old.rest ++ piece } → new.at + length new.rest ≤ old.at + length old.rest + length piece
+fed_moves old new piece t =
+    let at : new.at ≡ old.at = ap (λ (v : Cutting). v.at) t in
+    let rest : length new.rest ≡ length (old.rest ++ piece) = ap (λ (v : Cutting). length v.rest) t in
+    let more : old.at + length (old.rest ++ piece) ≤ old.at + length old.rest + length piece = more_fed old (old.rest ++ piece) piece refl in omega arith
+
+moves : (state : CutterState) (piece : List ℕ) (old new : Cutting) → Takes state piece old new → new.at + length new.rest ≤ old.at + length old.rest + length piece
+moves Start piece old new t = start_moves new.state (old.rest ++ piece) piece old new refl t
+moves First piece old new t = fed_moves old new piece t
+moves Behind piece old new t = fed_moves old new piece t
+moves (Faulty fault) piece old new t = fed_moves old new piece t
+
+pub takes_end : {A B : Type 0} (result : Result A B) (piece : List ℕ) (old new : Cutting) → OnOk result (Takes old.state piece old new) → OnErr result (new ≡ old)
+    → new.at + length new.rest ≤ old.at + length old.rest + length piece
+takes_end (Ok value) piece old new t e = moves old.state piece old new t
+takes_end (Err error) piece old new t e =
+    let at : new.at ≡ old.at = ap (λ (v : Cutting). v.at) e in
+    let rest : length new.rest ≡ length old.rest = ap (λ (v : Cutting). length v.rest) e in omega arith

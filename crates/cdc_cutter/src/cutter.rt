@@ -121,6 +121,8 @@ impl Cutter {
         // Whatever it may have been fed and have given, it has been fed the piece besides.
         ensures fed { OnOk result ((start checksum : ℕ) (fed : List ℕ) (given : List PlacedEvent) → Holds self.old start checksum fed given → Holds self.new start checksum (fed ++ piece.now) given) }
         ensures file { self.new.file ≡ self.old.file }
+        // The last byte that was fed stands no further on than the piece is long.
+        ensures end { self.new.at + length self.new.rest ≤ self.old.at + length self.old.rest + length piece.now }
         ensures faulty { (fault : FileFault) → self.old.state ≡ Faulty fault → IsOk result × (self.new ≡ self.old) }
         ensures err { OnErr result (self.new ≡ self.old) }
     {
@@ -143,7 +145,9 @@ impl Cutter {
         }
     }
 
-    // What stands next, where an event begins.
+    // What stands next, where an event begins. It is put into its callers, as those of it are: a view has 96 bytes, and
+    // what a caller doesn't read of one is then never written.
+    #[inline(always)]
     fn peek_event(&self, first: bool) -> Peek<'_>
         requires { BeginsEvent first self.now.state }
         ensures cut { CutsEvent first self.now (behind_cut self.now (cut_viewed result)) (cut_viewed result) }
@@ -167,6 +171,7 @@ impl Cutter {
 
     /// What `next` would answer, with its event in place: nothing is taken, shared or passed. `pass` goes on behind
     /// the event. It takes no memory.
+    #[inline(always)]
     pub fn peek(&self) -> Peek<'_>
         // Whatever it may have been fed and have given, this is the answer that the fed bytes have.
         ensures answer { (start checksum : ℕ) (fed : List ℕ) (given : List PlacedEvent) → Holds self.now start checksum fed given → Answers start checksum fed given self.now (behind_cut self.now (cut_viewed result)) (cut_viewed result) }
@@ -180,6 +185,7 @@ impl Cutter {
     }
 
     // The same, in terms of the bytes that aren't cut.
+    #[inline(always)]
     fn peeked(&self) -> Peek<'_>
         ensures cut { Cuts self.now.state self.now (behind_cut self.now (cut_viewed result)) (cut_viewed result) }
         ensures passable { MayPass self.now result }
@@ -279,6 +285,14 @@ impl Cutter {
         ensures need { IfOk result (λ cut. cut ≡ Need → IsGoingOn self.new.state) }
     {
         self.step()
+    }
+
+    /// The bytes that aren't cut yet. Those of the event that `peek` tells are the first: its header has 19, and its body
+    /// ends where the event's length says.
+    pub fn bytes(&self) -> &[u8]
+        ensures { result.now ≡ self.now.rest }
+    {
+        self.pending.bytes()
     }
 
     /// The file, and the place in it behind the last byte that was fed; after a fault, behind the last that was taken.

@@ -15,6 +15,10 @@ use cdc_event::kind::FORMAT;
 use cdc_event::{BodyView, Event, EventFault, HEADER_LENGTH, Header, ReadError, read_owned_body};
 
 /// The setting behind an event: a format event names it, and every other leaves it.
+///
+/// It isn't put into its callers: there its one byte would cut the copies of a view into pieces that lie over one
+/// another, which the processor reads slowly.
+#[inline(never)]
 pub fn setting_behind(before: u8, body: &BodyView) -> u8
     requires before { before ≤ 1 }
     requires known { HasKnownAlgorithm (body_viewed body.now) }

@@ -29,7 +29,7 @@ pub use laws::{
     grown_file_continues, no_event_begins_another, rest_is_read, what_is_written_is_read,
 };
 pub use number::{bytes_4, number_2, number_4};
-pub use reading::{read_body, read_owned_body};
+pub use reading::read_owned_body;
 pub use view::{BodyView, EventView};
 pub use view_reading::{read_view, view_body};
 pub use writing::{header_array, write_body, write_event};

@@ -289,33 +289,13 @@ fn read_moved(header: &Header, body: Blob, checksum: u8) -> Result<Event, ReadEr
     }
 }
 
-/// The event of a header and the bytes behind it, or the first fault of its body.
+/// The event of a header and the bytes behind it, which are given away, or the first fault of its body.
 ///
 /// `checksum` is the setting at the event's place: the algorithm of the last format event before it in
 /// its file, and 0 where there is none. Under setting 1 an event of any type but a format event loses its
 /// last four bytes, unverified, and its length field is lowered by four in what is answered. The event's
-/// byte strings share the bytes of `body`; none is copied. A fault takes no memory: `Memory` comes only
-/// where there is an event.
-pub fn read_body(header: &Header, body: &Blob, checksum: u8) -> Result<Event, ReadError>
-    requires setting { checksum ≤ 1 }
-    requires length { HasGoodLength checksum header.now }
-    requires whole { header.now.length ≡ 19 + length body.now }
-    // What is read is spelled so.
-    ensures event { IfOk result (λ event. Encodes event (header_bytes (kept_header checksum header.now) ++ kept_bytes checksum header.now.kind body.now)) }
-    // A format event that is read names an algorithm that is known.
-    ensures known { IfOk result (λ event. HasKnownAlgorithm event.body) }
-    // What is spelled so is read, unless memory runs out.
-    ensures only { (event : Event) → HasKnownAlgorithm event.body → Encodes event (header_bytes (kept_header checksum header.now) ++ kept_bytes checksum header.now.kind body.now) → Gives result (Ok event) }
-    // A fault is answered exactly where it stands.
-    ensures fault { (fault : EventFault) → (result ≡ Err (Fault fault)) ↔ HasFault header.now.kind (kept_bytes checksum header.now.kind body.now) fault }
-    // The same as a function of the bytes.
-    ensures exact { Gives result (event_of checksum header.now body.now) }
-{
-    read_kept(header, body, checksum)
-}
-
-/// The same as `read_body`, of a body that is given away: rows keep it, so that its count of sharers isn't
-/// touched.
+/// byte strings share the bytes of `body`; none is copied, and rows keep it, so that its count of sharers isn't
+/// touched. A fault takes no memory: `Memory` comes only where there is an event.
 pub fn read_owned_body(header: &Header, body: Blob, checksum: u8) -> Result<Event, ReadError>
     requires setting { checksum ≤ 1 }
     requires length { HasGoodLength checksum header.now }

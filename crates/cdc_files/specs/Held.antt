@@ -4,8 +4,8 @@ use Rattle.cdc_base.specs.declared.place.Place.{Place}
 use Rattle.cdc_files.specs.declared.held_source.HeldSource.{HeldSource}
 
 -- the bytes that it keeps
-abbrev pub kept_of : HeldSource → List ℕ
-kept_of source = source.bytes.items
+abbrev pub bytes_kept : HeldSource → List ℕ
+bytes_kept source = source.bytes.items
 
 -- whether it keeps a failure instead
 abbrev pub keeps_failure : HeldSource → Bool
@@ -13,7 +13,7 @@ keeps_failure source = source.fails
 
 -- its one file
 abbrev pub one_held_file : HeldSource → List (List ℕ)
-one_held_file source = kept_of source ∷ []
+one_held_file source = bytes_kept source ∷ []
 
 -- the least place that was asked for
 abbrev pub held_lowest : HeldSource → Option Place

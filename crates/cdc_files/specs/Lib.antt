@@ -1,4 +1,5 @@
 pub mod FileNames
+pub mod Gathering
 pub mod Share
 pub mod Stream
 pub mod Held

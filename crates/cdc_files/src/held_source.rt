@@ -29,7 +29,7 @@ pub struct HeldSource {
 }
 
 impl HeldSource {
-    ghost use Rattle.cdc_files.specs.Held.{kept_of, keeps_failure, held_lowest, held_highest, held_faults};
+    ghost use Rattle.cdc_files.specs.Held.{bytes_kept, keeps_failure, held_lowest, held_highest, held_faults};
 
     /// What stands at this path, read now; a failure where that is no regular file, or can't be read.
     pub fn open<F: Read + OpenFile + Drop, R: AllocGlobal + Files<File = F>>(
@@ -39,7 +39,7 @@ impl HeldSource {
         ensures lowest { IfOk result (λ source. held_lowest source ≡ None) }
         ensures highest { IfOk result (λ source. held_highest source ≡ None) }
         ensures faults { IfOk result (λ source. held_faults source ≡ 0) }
-        ensures short { IfOk result (λ source. length (kept_of source) ≤ HELD_MOST) }
+        ensures short { IfOk result (λ source. length (bytes_kept source) ≤ HELD_MOST) }
     {
         HeldSource::new(rt.alloc(), open_regular(rt, path.as_str()))
     }
@@ -48,11 +48,11 @@ impl HeldSource {
     pub fn new<F: Read + Drop>(alloc: Global, file: Option<F>) -> Result<HeldSource, Memory>
         ensures none { IsNone file → IfOk result (λ source. IsTrue (keeps_failure source)) }
         // Where it is known what the reader has, that is kept, up to the limit.
-        ensures whole { IfSome file (λ reader. IfSome (F.remaining reader) (λ bytes. IfOk result (λ source. keeps_failure source ≡ false → kept_of source ≡ take HELD_MOST bytes))) }
+        ensures whole { IfSome file (λ reader. IfSome (F.remaining reader) (λ bytes. IfOk result (λ source. keeps_failure source ≡ false → bytes_kept source ≡ take HELD_MOST bytes))) }
         ensures lowest { IfOk result (λ source. held_lowest source ≡ None) }
         ensures highest { IfOk result (λ source. held_highest source ≡ None) }
         ensures faults { IfOk result (λ source. held_faults source ≡ 0) }
-        ensures short { IfOk result (λ source. length (kept_of source) ≤ HELD_MOST) }
+        ensures short { IfOk result (λ source. length (bytes_kept source) ≤ HELD_MOST) }
     {
         match file {
             None => Ok(HeldSource::kept(Vec::new(alloc), true)),
@@ -61,11 +61,11 @@ impl HeldSource {
     }
 
     fn read<F: Read + Drop>(alloc: Global, reader: F) -> Result<HeldSource, Memory>
-        ensures whole { IfSome (F.remaining reader) (λ bytes. IfOk result (λ source. keeps_failure source ≡ false → kept_of source ≡ take HELD_MOST bytes)) }
+        ensures whole { IfSome (F.remaining reader) (λ bytes. IfOk result (λ source. keeps_failure source ≡ false → bytes_kept source ≡ take HELD_MOST bytes)) }
         ensures lowest { IfOk result (λ source. held_lowest source ≡ None) }
         ensures highest { IfOk result (λ source. held_highest source ≡ None) }
         ensures faults { IfOk result (λ source. held_faults source ≡ 0) }
-        ensures short { IfOk result (λ source. length (kept_of source) ≤ HELD_MOST) }
+        ensures short { IfOk result (λ source. length (bytes_kept source) ≤ HELD_MOST) }
     {
         let mut bytes = Vec::new(alloc);
         match reader.take(HELD_MOST).read_to_end(&mut bytes) {
@@ -77,12 +77,12 @@ impl HeldSource {
 
     /// These bytes up to the limit, or a failure, before any call.
     fn kept(mut bytes: Vec<u8>, fails: bool) -> HeldSource
-        ensures bytes { kept_of result ≡ take HELD_MOST bytes.items }
+        ensures bytes { bytes_kept result ≡ take HELD_MOST bytes.items }
         ensures fails { keeps_failure result ≡ fails }
         ensures lowest { held_lowest result ≡ None }
         ensures highest { held_highest result ≡ None }
         ensures faults { held_faults result ≡ 0 }
-        ensures short { length (kept_of result) ≤ HELD_MOST }
+        ensures short { length (bytes_kept result) ≤ HELD_MOST }
     {
         bytes.truncate(HELD_MOST as usize);
         HeldSource {
@@ -117,8 +117,8 @@ impl HeldSource {
 
     /// Puts as many bytes at the front of `into` as it takes and are kept behind `at`.
     fn copy(&self, at: u64, into: &mut [u8]) -> usize
-        ensures read { ReadsFile (kept_of self.now) at into.new result }
-        ensures full { result ≡ min (length into.old) (length (kept_of self.now) - at) }
+        ensures read { ReadsFile (bytes_kept self.now) at into.new result }
+        ensures full { result ≡ min (length into.old) (length (bytes_kept self.now) - at) }
     {
         let bytes = self.bytes.as_slice();
         let start = at.min(bytes.len() as u64) as usize;

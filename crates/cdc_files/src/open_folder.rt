@@ -3,6 +3,7 @@
 ghost use Rattle.std.specs.Prelude.{◌≡◌, ◌≤◌, ◌<◌, length, IfOk, IfSome};
 
 use crate::file_path::FilePath;
+use crate::gathered::Gathered;
 use crate::opened::Opened;
 use cdc_base::{Memory, Text};
 use cdc_outside::DiskFile;
@@ -24,7 +25,8 @@ struct KeptFile<F> {
     waits: bool,
 }
 
-/// A folder of slots and logs. A file is opened once, and kept until another log takes its place.
+/// A folder of slots and logs. A file is opened once, and kept until another log takes its place. Writes into one file,
+/// each right behind the one before, are gathered, and reach it in one piece before anything else is done here.
 ///
 /// What an earlier program left unsynced is made durable too: at the first sync the slots, the folder, what it stands
 /// in and all files that were opened before; from then on each file when it is opened.
@@ -33,6 +35,8 @@ pub struct OpenFolder<R, F> {
     rt: R,
     path: FilePath,
     kept: Vec<Option<KeptFile<F>>>,
+    /// What was written and didn't reach its file as yet, which is kept open.
+    gathered: Gathered,
     /// Whether the folder's own list of files is to be made durable.
     folder_waits: bool,
     /// Whether the folder's name in what it stands in is.
@@ -51,6 +55,7 @@ impl<F: FileExt + OpenFile + Drop, R: Files<File = F> + Drop> OpenFolder<R, F> {
             rt,
             path: FilePath::new(alloc, folder)?,
             kept: no_files(alloc)?,
+            gathered: Gathered::new(alloc)?,
             folder_waits: true,
             parent_waits: true,
             settled: false,
@@ -60,6 +65,7 @@ impl<F: FileExt + OpenFile + Drop, R: Files<File = F> + Drop> OpenFolder<R, F> {
 
     /// How many bytes a file has, and 0 where it isn't there.
     pub fn length(&mut self, file: DiskFile) -> Option<u64> {
+        self.flush()?;
         self.keep(file)?;
         match &mut self.kept[place_of(file)] {
             Some(kept) => kept.opened.length(),
@@ -71,6 +77,7 @@ impl<F: FileExt + OpenFile + Drop, R: Files<File = F> + Drop> OpenFolder<R, F> {
     pub fn read(&mut self, file: DiskFile, at: u64, into: &mut [u8]) -> Option<usize>
         ensures { IfSome result (λ read. read ≤ length into.old) }
     {
+        self.flush()?;
         self.keep(file)?;
         match &mut self.kept[place_of(file)] {
             Some(kept) => kept.opened.read(at, into),
@@ -80,15 +87,32 @@ impl<F: FileExt + OpenFile + Drop, R: Files<File = F> + Drop> OpenFolder<R, F> {
 
     /// Writes into a file, which is made where it isn't there.
     pub fn write(&mut self, file: DiskFile, at: u64, from: &[u8]) -> Option<()> {
+        if !self.gathered.takes(file, at, from.len()) {
+            self.flush()?;
+        }
         self.keep(file)?;
         self.make(file)?;
         let kept = self.kept[place_of(file)].as_mut()?;
         kept.waits = true;
+        if self.gathered.takes(file, at, from.len()) {
+            self.gathered.add(file, at, from);
+            return Some(());
+        }
         kept.opened.write(at, from)
+    }
+
+    /// Brings what was gathered to its file.
+    fn flush(&mut self) -> Option<()> {
+        let Some(file) = self.gathered.file() else {
+            return Some(());
+        };
+        let kept = self.kept[place_of(file)].as_mut()?;
+        self.gathered.write_to(&mut kept.opened)
     }
 
     /// Cuts a file, where it is there and longer.
     pub fn cut(&mut self, file: DiskFile, to: u64) -> Option<()> {
+        self.flush()?;
         self.keep(file)?;
         match &mut self.kept[place_of(file)] {
             Some(kept) => {
@@ -104,6 +128,7 @@ impl<F: FileExt + OpenFile + Drop, R: Files<File = F> + Drop> OpenFolder<R, F> {
         if self.lost {
             return None;
         }
+        self.flush()?;
         self.lost = true;
         if !self.settled {
             self.keep(DiskFile::SlotA)?;
@@ -162,6 +187,7 @@ impl<F: FileExt + OpenFile + Drop, R: Files<File = F> + Drop> OpenFolder<R, F> {
     fn leave(&mut self, place: usize) -> Option<()>
         requires { place < 8 }
     {
+        self.flush()?;
         let lost = self.lost;
         self.lost = true;
         self.secure(place)?;

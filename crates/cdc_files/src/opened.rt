@@ -72,8 +72,8 @@ impl<F: FileExt + OpenFile + Drop> Opened<F> {
         Some(())
     }
 
-    /// Makes durable what it has.
+    /// Makes durable its bytes, and how many it has.
     pub fn sync(&self) -> Option<()> {
-        self.file.sync_all().ok()
+        self.file.sync_data().ok()
     }
 }

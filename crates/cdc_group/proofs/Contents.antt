@@ -1,5 +1,5 @@
 -- What a group holds, by its rows and whether its one row is a statement.
-use Rattle.std.proofs.Common.{◌≡◌, ℕ, suc, ◌==◌, Bool, true, false, List, [], ◌∷◌, ◌++◌, length, Option, Some, None, refl, arith}
+use Rattle.std.proofs.Common.{◌≡◌, suc, ◌==◌, Bool, true, false, List, [], ◌∷◌, ◌++◌, length, Some, None, refl, arith}
 use Rattle.std.proofs.lemmas.Bool.Decides.{nat_tests}
 use Rattle.cdc_model.specs.declared.fault.GroupFault.{GroupFault}
 use Rattle.cdc_model.specs.declared.fault.GroupFault.TheVariants.{BadDdl}

@@ -1,23 +1,20 @@
 -- What an event comes to that fits.
-use Rattle.std.proofs.Common.{◌≡◌, ℕ, List, Option, Some, None, Result, Ok, Err, IfOk, OnOk, OnErr, refl, ap, sym, subst, ◌∙◌}
+use Rattle.std.proofs.Common.{◌≡◌, ℕ, Option, Some, None, Result, Ok, Err, IfOk, OnOk, OnErr, refl, ap, sym, subst, ◌∙◌}
 use Rattle.std.specs.Option.{option_map}
 use Rattle.cdc_base.specs.declared.memory.Memory.{Memory as NoMemory}
 use Rattle.cdc_base.specs.declared.place.Place.{Place}
 use Rattle.cdc_event.specs.declared.event.Event.{Event}
 use Rattle.cdc_model.specs.declared.entry.EntryKind.{EntryKind}
 use Rattle.cdc_model.specs.declared.fault.GroupFault.{GroupFault}
-use Rattle.cdc_model.specs.Records.{Row, LogEntry}
-use Rattle.cdc_model.specs.Sign.{Sign, SignedEvent, sign_of}
-use Rattle.cdc_model.specs.Group.{Progress, Out as HasNone}
+use Rattle.cdc_model.specs.Records.{LogEntry}
+use Rattle.cdc_model.specs.Sign.{Sign, sign_of}
+use Rattle.cdc_model.specs.Group.{Out as HasNone}
 use Rattle.cdc_model.specs.Advance.{made, entry_at}
 use Rattle.cdc_group.specs.declared.error.GroupError.{GroupError}
-use Rattle.cdc_group.specs.declared.error.GroupError.TheVariants.{Fault, Memory}
 use Rattle.cdc_group.specs.declared.group.Group.{Group}
 use Rattle.cdc_group.specs.declared.group.GroupState.{GroupState}
 use Rattle.cdc_group.specs.declared.group.GroupState.TheVariants.{Out}
-use Rattle.cdc_group.specs.declared.sign.EventSign.{EventSign}
 use Rattle.cdc_group.specs.Grouping.{Grouping, Goes, Stopped, fault_at, gone_on, kind_ended, entry_ended}
-use Rattle.cdc_group.specs.Seen.{sign_seen}
 use Rattle.cdc_group.specs.State.{standing, grouping_of}
 use Rattle.cdc_group.specs.Taking.{taken_event, placed_entry, placed_result, TakesEvent}
 

@@ -4,14 +4,14 @@ use Rattle.std.specs.Option.{option_to_list}
 use Rattle.cdc_model.specs.declared.fault.GroupFault.{GroupFault}
 use Rattle.cdc_model.specs.Records.{LogEntry}
 use Rattle.cdc_model.specs.Sign.{SignedEvent}
-use Rattle.cdc_model.specs.Group.{Fits, Progress}
+use Rattle.cdc_model.specs.Group.{Progress}
 use Rattle.cdc_model.specs.Misfit.{misfit}
 use Rattle.cdc_model.specs.Entries.{ReadsTo, CeasesToFit, FittingIsRead, MisfitsAreTold}
 use Rattle.cdc_model.specs.Advance.{OneEventMore, ReadingBegins, advance, entry_given}
 use Rattle.cdc_group.specs.declared.error.GroupError.{GroupError}
 use Rattle.cdc_group.specs.declared.error.GroupError.TheVariants.{Fault, Memory}
 use Rattle.cdc_group.specs.Grouping.{Grouping, Goes, Stopped, ended_file}
-use Rattle.cdc_group.specs.Taking.{HasGrouped, Groups, TakesEvent, FaultStands}
+use Rattle.cdc_group.specs.Taking.{HasGrouped, Groups, TakesEvent}
 
 -- the entries of a reading may be written in another way
 given_as : (file : ℕ) (events : List SignedEvent) (given : List LogEntry) (entry other : Option LogEntry) (new : Grouping)

@@ -1,7 +1,5 @@
 -- What a grouper keeps stands for.
-use Rattle.std.specs.Prelude.{◌^◌, ◌<◌, ℕ, Bool, true, false, List, [], ◌∷◌, Option, Some, None}
-use Rattle.std.specs.List.{AllByRecursion}
-use Rattle.std.specs.Option.{option_map}
+use Rattle.std.specs.Prelude.{ℕ, Bool, true, false, List, [], ◌∷◌, Option, Some, None}
 use Rattle.cdc_base.specs.declared.xid.Xid.{Xid}
 use Rattle.cdc_model.specs.Records.{Row}
 use Rattle.cdc_model.specs.Group.{Content, TableRows, OneStatement}

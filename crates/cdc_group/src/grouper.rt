@@ -15,6 +15,7 @@ ghost use Rattle.cdc_group.specs.Taking.{taken_event, placed_result, HasGrouped,
 
 use crate::error::GroupError;
 use crate::group::{Group, GroupState};
+use crate::known::Known;
 use crate::sign::sign_of;
 use crate::source::Source;
 use cdc_base::{Memory, Place};
@@ -55,6 +56,7 @@ fn placed(
 pub struct Grouper {
     alloc: Global,
     group: Group,
+    known: Known,
 }
 
 impl Model for Grouper {
@@ -65,6 +67,10 @@ impl Model for Grouper {
     ghost use Rattle.cdc_group.specs.State.{grouping_of};
 
     ghost view = { λ grouper. grouping_of grouper.group };
+
+    ghost use Rattle.cdc_group.specs.Known.{IsKnown};
+
+    ghost invariant = { λ grouper. IsKnown grouper.known };
 }
 
 impl Grouper {
@@ -77,6 +83,7 @@ impl Grouper {
         Grouper {
             alloc,
             group: Group::new(alloc),
+            known: Known::new(alloc),
         }
     }
 
@@ -96,7 +103,7 @@ impl Grouper {
         ensures { TakesEvent at.file (taken_event at end checksum (event_viewed view.now)) self.old self.new result }
     {
         let kind = view.header.kind;
-        let sign = sign_of(kind, &view.body);
+        let sign = sign_of(kind, &view.body, &mut self.known);
         if let Some(fault) = self.group.misfit(&sign) {
             self.group.state = GroupState::Faulty(fault);
             return Err(GroupError::Fault(fault));

@@ -9,6 +9,7 @@
 mod error;
 mod group;
 mod grouper;
+mod known;
 mod laws;
 mod misfit;
 mod sign;

@@ -6,8 +6,11 @@ ghost use Rattle.cdc_model.specs.Sign.{sign_of_verb, sign_of_time, sign_of_skipp
 ghost use Rattle.cdc_model.specs.Records.{Row};
 ghost use Rattle.cdc_event.specs.declared.body.Body.TheVariants.{RowsQuery as RowsQueryBody};
 ghost use Rattle.cdc_event.specs.Event.{FitsBody};
+ghost use Rattle.cdc_query.specs.Words.{verb_of};
+ghost use Rattle.cdc_group.specs.Known.{IsKnown};
 ghost use Rattle.cdc_group.specs.Seen.{sign_seen};
 
+use crate::known::Known;
 use crate::time::Time;
 use cdc_base::{Gtrid, Xid, gtrid_of};
 use cdc_event::BodyView;
@@ -88,6 +91,22 @@ fn sign_of_verb(verb: &Verb) -> EventSign
     }
 }
 
+// The sign of a statement's text. The text that ends the known branch isn't read again.
+fn sign_of_text(text: &[u8], known: &mut Known) -> EventSign
+    requires { IsKnown known.old }
+    ensures sign { (row : Row) → sign_seen row result ≡ sign_of_verb (verb_of text.now) }
+    ensures known { IsKnown known.new }
+{
+    if let Some(xid) = known.ended(text) {
+        return EventSign::XaEnd(xid);
+    }
+    let verb = read_text(text);
+    if let Verb::XaStart(xid) = &verb {
+        known.start(text, xid);
+    }
+    sign_of_verb(&verb)
+}
+
 // Whether a verb is no transaction's.
 fn is_other(verb: &Verb) -> bool
     ensures { result ≡ is_other verb.now }
@@ -154,12 +173,14 @@ fn id_of(bytes: &[u8]) -> Gtrid
 
 /// The sign of a body under its type.
 #[tactic(auto, unfolding(cdc_event::specs::Event::FitsBody))]
-pub(crate) fn sign_of(kind: u8, body: &BodyView<'_>) -> EventSign
-    requires { FitsBody (body_viewed body.now) }
-    ensures { sign_seen (kind, body_viewed body.now) result ≡ sign_of_body kind (body_viewed body.now) }
+pub(crate) fn sign_of(kind: u8, body: &BodyView<'_>, known: &mut Known) -> EventSign
+    requires fits { FitsBody (body_viewed body.now) }
+    requires known { IsKnown known.old }
+    ensures known { IsKnown known.new }
+    ensures sign { sign_seen (kind, body_viewed body.now) result ≡ sign_of_body kind (body_viewed body.now) }
 {
     match body {
-        BodyView::Query { text, .. } => sign_of_verb(&read_text(text)),
+        BodyView::Query { text, .. } => sign_of_text(text, known),
         BodyView::Xid { .. } => EventSign::Number,
         BodyView::RowsQuery { text, .. } => sign_of_marked(text),
         BodyView::TableMap { .. } => EventSign::Row,

@@ -8,18 +8,18 @@ use Rattle.cdc_outside.specs.Disk.{Image, Change, Wrote, CutTo, Elapses, same_fi
 use Rattle.cdc_outside.proofs.Changes.{is_written_more, shortest_wrote, shortest_cut}
 use Rattle.cdc_memory.specs.Moments.{stays_from_rest}
 use Rattle.cdc_outside.proofs.Pending.{as_synced, same_file_is, with_file_same, with_file_other}
-use Rattle.cdc_memory.specs.Replay.{Holding, at_rest, after_step, replayed, LeavesNow, LeavesSince, holding_of}
+use Rattle.cdc_memory.specs.Replay.{Holding, at_rest, after_step, after_steps, LeavesNow, LeavesSince, holding_of}
 use Rattle.cdc_memory.specs.declared.disk_record.DiskStep.{DiskStep}
 use Rattle.cdc_memory.specs.declared.disk_record.DiskStep.TheVariants.{Sync}
 
-pub replayed_more : (holding : Holding) (steps : List DiskStep) (step : DiskStep) → replayed holding (steps ++ step ∷ []) ≡ after_step (replayed holding steps) step
+pub replayed_more : (holding : Holding) (steps : List DiskStep) (step : DiskStep) → after_steps holding (steps ++ step ∷ []) ≡ after_step (after_steps holding steps) step
 replayed_more holding [] step = refl
 replayed_more holding (first ∷ steps) step = replayed_more (after_step holding first) steps step
 
 pub replayed_next : (holding : Holding) (steps : List DiskStep) (index : ℕ) (step : DiskStep) → index < length steps → step ≡ get_or steps index step
-    → replayed holding (take (index + 1) steps) ≡ after_step (replayed holding (take index steps)) step
+    → after_steps holding (take (index + 1) steps) ≡ after_step (after_steps holding (take index steps)) step
 replayed_next holding steps index step lt is =
-    ap (replayed holding) (take_more steps index step lt ∙ ap (λ it. take index steps ++ it ∷ []) (sym is)) ∙ replayed_more holding (take index steps) step
+    ap (after_steps holding) (take_more steps index step lt ∙ ap (λ it. take index steps ++ it ∷ []) (sym is)) ∙ replayed_more holding (take index steps) step
 
 -- whether a byte was written, after a write
 pub written_then : (file other : DiskFile) (at place : ℕ) (bytes : List ℕ) (pending : DiskFile → List Change) (before now : Bool) → before ≡ is_written place (pending file)
@@ -92,24 +92,24 @@ written_by file other at place told bytes pending before same covered now was sa
     (is ∙ ap (λ b. before || (b && covered)) sames ∙ ap (λ b. before || (same_file other file && b)) (covers ∙ ap (λ (l : List ℕ). nat_le at place && nat_lt place (at + length l)) e))
 
 -- moments: the same steps, and one step more
-pub no_step : (start : Holding) (steps : List DiskStep) → Elapses (length steps) (length steps) (LeavesSince start steps) (LeavesSince start steps) (LeavesNow (replayed start steps))
+pub no_step : (start : Holding) (steps : List DiskStep) → Elapses (length steps) (length steps) (LeavesSince start steps) (LeavesSince start steps) (LeavesNow (after_steps start steps))
 no_step start steps = record { later = omega arith; nothing_else = λ t image le left. inl left; keeps = λ t image le left. left }
 
 pub one_step : (start : Holding) (steps : List DiskStep) (step : DiskStep)
-    → Elapses (length steps) (length (steps ++ step ∷ [])) (LeavesSince start steps) (LeavesSince start (steps ++ step ∷ [])) (LeavesNow (replayed start (steps ++ step ∷ [])))
+    → Elapses (length steps) (length (steps ++ step ∷ [])) (LeavesSince start steps) (LeavesSince start (steps ++ step ∷ [])) (LeavesNow (after_steps start (steps ++ step ∷ [])))
 one_step start steps step = record {
   later = omega (arith, length-append steps (step ∷ []));
   nothing_else = λ t image le left. elim (cases_lt (length steps) left.0) [
     | inl past ↦
         let all : take left.0 (steps ++ step ∷ []) ≡ steps ++ step ∷ [] = take_all left.0 (steps ++ step ∷ []) (omega (arith, length-append steps (step ∷ []))) in
-        inr (subst (λ (l : List DiskStep). LeavesNow (replayed start l) image) all left.3)
+        inr (subst (λ (l : List DiskStep). LeavesNow (after_steps start l) image) all left.3)
     | inr within ↦
         let same : take left.0 (steps ++ step ∷ []) ≡ take left.0 steps = take-append-le left.0 steps (step ∷ []) within in
-        inl (left.0, left.1, within, subst (λ (l : List DiskStep). LeavesNow (replayed start l) image) same left.3)
+        inl (left.0, left.1, within, subst (λ (l : List DiskStep). LeavesNow (after_steps start l) image) same left.3)
   ];
   keeps = λ t image le left.
       let same : take left.0 (steps ++ step ∷ []) ≡ take left.0 steps = take-append-le left.0 steps (step ∷ []) left.2 in
-      (left.0, left.1, omega (arith, left.2, length-append steps (step ∷ [])), subst (λ (l : List DiskStep). LeavesNow (replayed start l) image) (sym same) left.3);
+      (left.0, left.1, omega (arith, left.2, length-append steps (step ∷ [])), subst (λ (l : List DiskStep). LeavesNow (after_steps start l) image) (sym same) left.3);
 }
 
 -- the replay of one step more

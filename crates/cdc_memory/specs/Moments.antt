@@ -6,18 +6,18 @@ use Rattle.std.proofs.lemmas.Bool.{cases_Bool}
 use Rattle.cdc_outside.specs.Disk.{Image, Change, MayLeave, Wrote, CutTo, same_file, with_file, overwritten}
 use Rattle.cdc_outside.proofs.Changes.{stays_written, stays_cut, stays_synced}
 use Rattle.cdc_outside.proofs.Pending.{same_file_is, with_file_same, with_file_other}
-use Rattle.cdc_memory.specs.Replay.{Holding, at_rest, after_step, replayed, LeavesNow, LeavesSince}
+use Rattle.cdc_memory.specs.Replay.{Holding, at_rest, after_step, after_steps, LeavesNow, LeavesSince}
 use Rattle.cdc_memory.specs.declared.disk_record.DiskStep.{DiskStep}
 use Rattle.cdc_memory.specs.declared.disk_record.DiskStep.TheVariants.{Write, Cut, Sync}
 
 -- this moment is one of those since an earlier one
-pub counts_at_end : (start : Holding) (steps : List DiskStep) (t : ℕ) (image : Image) → t ≤ length steps → LeavesNow (replayed start steps) image → LeavesSince start steps t image
+pub counts_at_end : (start : Holding) (steps : List DiskStep) (t : ℕ) (image : Image) → t ≤ length steps → LeavesNow (after_steps start steps) image → LeavesSince start steps t image
 counts_at_end start steps t image le now =
-    (length steps, le, omega arith, subst (λ (l : List DiskStep). LeavesNow (replayed start l) image) (sym (take_all (length steps) steps (omega arith))) now)
+    (length steps, le, omega arith, subst (λ (l : List DiskStep). LeavesNow (after_steps start l) image) (sym (take_all (length steps) steps (omega arith))) now)
 
 -- since this moment there is no other
-pub only_at_end : (start : Holding) (steps : List DiskStep) (image : Image) → LeavesSince start steps (length steps) image → LeavesNow (replayed start steps) image
-only_at_end start steps image left = subst (λ (l : List DiskStep). LeavesNow (replayed start l) image) (take_all left.0 steps left.1) left.3
+pub only_at_end : (start : Holding) (steps : List DiskStep) (image : Image) → LeavesSince start steps (length steps) image → LeavesNow (after_steps start steps) image
+only_at_end start steps image left = subst (λ (l : List DiskStep). LeavesNow (after_steps start l) image) (take_all left.0 steps left.1) left.3
 
 -- one file's content and changes were changed
 stays_with : (file : DiskFile) (bytes : List ℕ) (changes : List Change) (last_sync seen : Image) (pending : DiskFile → List Change)
@@ -46,10 +46,10 @@ stays_stepped holding (Cut file to) may =
 stays_stepped holding Sync may = λ file. stays_synced (holding.seen file)
 
 -- what a read gives is among what a crash may leave, after any steps
-pub stays_replayed : (holding : Holding) (steps : List DiskStep) → LeavesNow holding holding.seen → LeavesNow (replayed holding steps) (replayed holding steps).seen
+pub stays_replayed : (holding : Holding) (steps : List DiskStep) → LeavesNow holding holding.seen → LeavesNow (after_steps holding steps) (after_steps holding steps).seen
 stays_replayed holding [] may = may
 stays_replayed holding (step ∷ steps) may = stays_replayed (after_step holding step) steps (stays_stepped holding step may)
 
 -- and so it is from a disk on which nothing is pending
-pub stays_from_rest : (image : Image) (steps : List DiskStep) → LeavesNow (replayed (at_rest image) steps) (replayed (at_rest image) steps).seen
+pub stays_from_rest : (image : Image) (steps : List DiskStep) → LeavesNow (after_steps (at_rest image) steps) (after_steps (at_rest image) steps).seen
 stays_from_rest image steps = stays_replayed (at_rest image) steps (λ file. stays_synced (image file))

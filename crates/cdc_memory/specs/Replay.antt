@@ -30,9 +30,9 @@ after_step holding (Cut file to) = record {
 after_step holding Sync = at_rest holding.seen
 
 -- after these steps, of which the oldest comes first
-abbrev pub replayed : Holding → List DiskStep → Holding
-replayed holding [] = holding
-replayed holding (step ∷ steps) = replayed (after_step holding step) steps
+abbrev pub after_steps : Holding → List DiskStep → Holding
+after_steps holding [] = holding
+after_steps holding (step ∷ steps) = after_steps (after_step holding step) steps
 
 -- what a crash may leave then: all that the model allows
 abbrev pub LeavesNow : Holding → Image → Type 0
@@ -40,8 +40,8 @@ LeavesNow holding image = (file : DiskFile) → MayLeave (holding.last_sync file
 
 -- and what one might have left at some moment since the one after so many steps
 abbrev pub LeavesSince : Holding → List DiskStep → ℕ → Image → Type 0
-LeavesSince start steps moment image = (number : ℕ) × (moment ≤ number) × (number ≤ length steps) × LeavesNow (replayed start (take number steps)) image
+LeavesSince start steps moment image = (number : ℕ) × (moment ≤ number) × (number ≤ length steps) × LeavesNow (after_steps start (take number steps)) image
 
 -- what a disk holds that began at rest with these files
 abbrev pub holding_of : Image → List DiskStep → Holding
-holding_of start steps = replayed (at_rest start) steps
+holding_of start steps = after_steps (at_rest start) steps

@@ -8,8 +8,8 @@ abbrev pub written_of : MemSink → List ℕ
 written_of sink = sink.bytes.items
 
 -- how many bytes it takes in all
-abbrev pub room_of : MemSink → ℕ
-room_of sink = sink.room
+abbrev pub sink_room : MemSink → ℕ
+sink_room sink = sink.room
 
 -- its calls so far
 abbrev pub sink_calls_of : MemSink → Calls

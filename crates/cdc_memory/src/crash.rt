@@ -3,7 +3,7 @@
 ghost use Rattle.std.specs.Prelude.{◌≡◌, ℕ, ◌+◌, ◌≤◌, ◌<◌, ◌%◌, ◌==◌, ◌||◌, nat_le, length, take, drop, IfOk, if◌then◌else◌};
 ghost use Rattle.cdc_outside.specs.Disk.{Image, Change, shortest, is_written};
 ghost use Rattle.cdc_memory.specs.CrashPick.{marked, crash_pick};
-ghost use Rattle.cdc_memory.specs.Replay.{at_rest, replayed};
+ghost use Rattle.cdc_memory.specs.Replay.{at_rest, after_steps};
 
 use crate::disk_record::DiskRecord;
 use crate::mem_file::MemFile;
@@ -23,7 +23,7 @@ pub fn left_by_crash(
 ) -> Result<MemFile, Memory>
     requires synced { length synced.now ≤ room }
     requires seen { length seen.now ≤ room }
-    ensures bytes { (image : Image) → IfOk result (λ left. left.bytes.items ≡ crash_pick pick synced.now ((replayed (at_rest image) history.now.steps.items).pending file) seen.now) }
+    ensures bytes { (image : Image) → IfOk result (λ left. left.bytes.items ≡ crash_pick pick synced.now ((after_steps (at_rest image) history.now.steps.items).pending file) seen.now) }
     ensures room { IfOk result (λ left. left.room ≡ room) }
 {
     let mut left = MemFile::new(alloc, room)?;
@@ -50,7 +50,7 @@ fn mark(
     left: &mut MemFile,
 )
     requires { length seen.now ≤ left.old.room }
-    ensures bytes { (image : Image) → left.new.bytes.items ≡ marked value 0 synced ((replayed (at_rest image) history.now.steps.items).pending file) seen.now }
+    ensures bytes { (image : Image) → left.new.bytes.items ≡ marked value 0 synced ((after_steps (at_rest image) history.now.steps.items).pending file) seen.now }
     ensures room { left.new.room ≡ left.old.room }
 {
     left.cut(0);
@@ -70,7 +70,7 @@ fn marked_byte(
     place: u64,
     byte: u8,
 ) -> u8
-    ensures { (image : Image) → result ≡ (if is_written place ((replayed (at_rest image) history.now.steps.items).pending file) || nat_le synced place then value else byte) }
+    ensures { (image : Image) → result ≡ (if is_written place ((after_steps (at_rest image) history.now.steps.items).pending file) || nat_le synced place then value else byte) }
 {
     if history.is_written(file, place) || synced <= place {
         value

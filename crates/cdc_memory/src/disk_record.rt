@@ -98,7 +98,7 @@ pub struct DiskRecord {
 
 impl DiskRecord {
     ghost use Rattle.cdc_outside.specs.Disk.{Image, is_written, shortest};
-    ghost use Rattle.cdc_memory.specs.Replay.{at_rest, replayed};
+    ghost use Rattle.cdc_memory.specs.Replay.{at_rest, after_steps};
     ghost use Rattle.cdc_memory.specs.declared.disk_record.DiskStep.TheVariants.{Write, Cut, Sync};
 
     /// No steps, and room for so many changes.
@@ -185,7 +185,7 @@ impl DiskRecord {
 
     /// Whether a byte of a file was written since the last sync.
     pub fn is_written(&self, file: DiskFile, place: u64) -> bool
-        ensures { (image : Image) → result ≡ is_written place ((replayed (at_rest image) self.now.steps.items).pending file) }
+        ensures { (image : Image) → result ≡ is_written place ((after_steps (at_rest image) self.now.steps.items).pending file) }
     {
         let mut written = false;
         for step in &self.steps {
@@ -196,7 +196,7 @@ impl DiskRecord {
 
     /// The least length that a file had since the last sync, at which it had this length.
     pub fn shortest(&self, file: DiskFile, synced: u64) -> u64
-        ensures { (image : Image) → result ≡ shortest synced ((replayed (at_rest image) self.now.steps.items).pending file) }
+        ensures { (image : Image) → result ≡ shortest synced ((after_steps (at_rest image) self.now.steps.items).pending file) }
     {
         let mut least = synced;
         for step in &self.steps {

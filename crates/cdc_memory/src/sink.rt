@@ -21,13 +21,13 @@ pub struct MemSink {
 }
 
 impl MemSink {
-    ghost use Rattle.cdc_memory.specs.Sink.{written_of, room_of, sink_calls_of};
+    ghost use Rattle.cdc_memory.specs.Sink.{written_of, sink_room, sink_calls_of};
 
     /// Nothing was written, and there is room for `room` bytes. The k-th write (from 1) fails for each k of
     /// `fails`, a write past the room fails, and no other does.
     pub fn new(alloc: Global, room: usize, fails: &[u64]) -> Result<MemSink, Memory>
         ensures written { IfOk result (λ sink. written_of sink ≡ []) }
-        ensures room { IfOk result (λ sink. room_of sink ≡ room) }
+        ensures room { IfOk result (λ sink. sink_room sink ≡ room) }
         ensures calls { IfOk result (λ sink. sink_calls_of sink ≡ at_first fails.now) }
     {
         Ok(MemSink {
@@ -53,7 +53,7 @@ impl MemSink {
 }
 
 impl Sink for MemSink {
-    ghost use Rattle.cdc_memory.specs.Sink.{written_of, room_of, sink_calls_of, is_past_room};
+    ghost use Rattle.cdc_memory.specs.Sink.{written_of, sink_room, sink_calls_of, is_past_room};
 
     ghost tells = { true };
 
@@ -65,7 +65,7 @@ impl Sink for MemSink {
     fn write(&mut self, bytes: &[u8]) -> Result<(), Failed>
         ensures ok { OnOk result (written_of self.new ≡ written_of self.old ++ bytes.now) }
         ensures err { OnErr result (written_of self.new ≡ written_of self.old) }
-        ensures room { room_of self.new ≡ room_of self.old }
+        ensures room { sink_room self.new ≡ sink_room self.old }
         ensures faults { RisesOnErr (sink_calls_of self.old).faults (sink_calls_of self.new).faults result }
         ensures call { Counts (is_past_room self.old bytes.now) (sink_calls_of self.old) (sink_calls_of self.new) result }
     {

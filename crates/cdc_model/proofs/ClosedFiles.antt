@@ -16,7 +16,7 @@ fill_nothing rules rotation [] back is some = absurd (omega arith)
 fill_nothing rules rotation (txn ∷ front) back is some = absurd (cc)
 
 -- a front of one transaction more, with something behind it, is a front already
-fewer_front : (txns : List Transaction) (txn : Transaction) (front back : List Transaction) → txns ++ txn ∷ [] ≡ front ++ back → 1 ≤ length back
+pub fewer_front : (txns : List Transaction) (txn : Transaction) (front back : List Transaction) → txns ++ txn ∷ [] ≡ front ++ back → 1 ≤ length back
     → (rest : List Transaction) × (txns ≡ front ++ rest)
 fewer_front txns txn [] back is some = (txns, refl)
 fewer_front [] txn (first ∷ front) back is some =

@@ -10,19 +10,19 @@ use Rattle.cdc_model.specs.Print.{Statement, split_at_colons}
 abbrev pub behind : List ℕ → Option Statement → Option Statement
 behind passed split = option_map (λ (s : Statement). (passed ++ s.0, s.1)) split
 
-behind_none : (split : Option Statement) → behind [] split ≡ split
+pub behind_none : (split : Option Statement) → behind [] split ≡ split
 behind_none None = refl
 behind_none (Some s) = refl
 
-behind_more : (passed : List ℕ) (byte : ℕ) (split : Option Statement) → behind passed (option_map (λ (s : Statement). (byte ∷ s.0, s.1)) split) ≡ behind (passed ++ byte ∷ []) split
+pub behind_more : (passed : List ℕ) (byte : ℕ) (split : Option Statement) → behind passed (option_map (λ (s : Statement). (byte ∷ s.0, s.1)) split) ≡ behind (passed ++ byte ∷ []) split
 behind_more passed byte None = refl
 behind_more passed byte (Some s) = let front : (passed ++ byte ∷ []) ++ s.0 ≡ passed ++ (byte ∷ s.0) = append_assoc passed (byte ∷ []) s.0 in rw front refl
 
-found : (tail : List ℕ) → starts_with nat_eq tail (58 ∷ 58 ∷ []) ≡ true → split_at_colons tail ≡ Some ([], drop 2 tail)
+pub found : (tail : List ℕ) → starts_with nat_eq tail (58 ∷ 58 ∷ []) ≡ true → split_at_colons tail ≡ Some ([], drop 2 tail)
 found [] e = absurd (cc)
 found (byte ∷ rest) e = rw e refl
 
-past : (byte : ℕ) (rest : List ℕ) → starts_with nat_eq (byte ∷ rest) (58 ∷ 58 ∷ []) ≡ false → split_at_colons (byte ∷ rest) ≡ option_map (λ (s : Statement). (byte ∷ s.0, s.1)) (split_at_colons rest)
+pub past : (byte : ℕ) (rest : List ℕ) → starts_with nat_eq (byte ∷ rest) (58 ∷ 58 ∷ []) ≡ false → split_at_colons (byte ∷ rest) ≡ option_map (λ (s : Statement). (byte ∷ s.0, s.1)) (split_at_colons rest)
 past byte rest e = rw e refl
 
 pub split_start : (text : List ℕ) → behind (take 0 text) (split_at_colons (drop 0 text)) ≡ split_at_colons text

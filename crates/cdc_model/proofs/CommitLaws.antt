@@ -24,12 +24,12 @@ use Rattle.cdc_model.proofs.Openings.{open_is_newest_prepare, unsaid_history}
 -- ---- what one entry commits
 
 -- the branch that a Commit finds open, where the Commit is sound
-found_open : (xid : Xid) (opened : Option OpenBranch) (fault : OpenBranch → Option SortFault) → when_open xid opened fault ≡ None
+pub found_open : (xid : Xid) (opened : Option OpenBranch) (fault : OpenBranch → Option SortFault) → when_open xid opened fault ≡ None
     → (branch : OpenBranch) × (opened ≡ Some branch)
 found_open xid None fault sound = absurd (cc)
 found_open xid (Some branch) fault sound = (branch, refl)
 
-is_committed : (start : Start) (node : ℕ) (earlier : List LogEntry) (kind : EntryKind) (here : Start) → here ≡ left_by start earlier
+pub is_committed : (start : Start) (node : ℕ) (earlier : List LogEntry) (kind : EntryKind) (here : Start) → here ≡ left_by start earlier
     → here.entry ≡ start.entry + length earlier → entry_fault kind here ≡ None → IsCommitted start node earlier kind (branch_of node kind here)
 is_committed start node earlier (Prepare xid rows) here is number sound = refl
 is_committed start node earlier (OnePhase xid rows timestamp seconds) here is number sound =
@@ -69,7 +69,7 @@ one_entry_more last start node earlier entry =
 
 -- ---- a held branch
 
-find_held : (test : OpenBranch → Bool) (opened : List OpenBranch) (branch : OpenBranch) → AllByRecursion IsHeld opened → find test opened ≡ Some branch → IsHeld branch
+pub find_held : (test : OpenBranch → Bool) (opened : List OpenBranch) (branch : OpenBranch) → AllByRecursion IsHeld opened → find test opened ≡ Some branch → IsHeld branch
 find_held test [] branch all found = absurd (cc)
 find_held test (first ∷ rest) branch (here, all) found = by (test first) (find_held test rest branch all) found
   where
@@ -77,12 +77,12 @@ find_held test (first ∷ rest) branch (here, all) found = by (test first) (find
     by true later is = let same : first ≡ branch = cc in subst IsHeld same here
     by false later is = later is
 
-old_is_dropped : (last : Key) (start : Start) (begun : Begun) (old : Bool) → leb start.entry begun.0 ≡ old → old ≡ false → new_branches last start (begun ∷ []) ≡ []
+pub old_is_dropped : (last : Key) (start : Start) (begun : Begun) (old : Bool) → leb start.entry begun.0 ≡ old → old ≡ false → new_branches last start (begun ∷ []) ≡ []
 old_is_dropped last start begun old is fails =
     let dropped : is_new last start begun ≡ false = ap (λ (b : Bool). b && is_gt (key_order begun.1.key last)) (is ∙ fails) in
     ap (λ (b : Bool). map (λ (b : Begun). b.1) (cond b (begun ∷ []) [])) dropped
 
-held_gives_none : (last : Key) (start : Start) (key : Key) (number seconds : ℕ) (opened : Option OpenBranch) → 1 ≤ start.entry
+pub held_gives_none : (last : Key) (start : Start) (key : Key) (number seconds : ℕ) (opened : Option OpenBranch) → 1 ≤ start.entry
     → ((branch : OpenBranch) → opened ≡ Some branch → IsHeld branch) → new_branches last start (committed key number seconds opened) ≡ []
 held_gives_none last start key number seconds None first held = refl
 held_gives_none last start key number seconds (Some branch) first held =

@@ -13,7 +13,7 @@ use Rattle.cdc_model.proofs.SoundFront.{left_behind}
 abbrev Found : Start → List LogEntry → Option (Place × SortFault) → Type 0
 Found start entries found = MatchOption found (AllSound start entries) (λ (found : Place × SortFault). IsFirstUnsound start entries found.0 found.1)
 
-unsound_later : (start : Start) (entry : LogEntry) (entries : List LogEntry) (at : Place) (fault : SortFault) → entry_fault entry.kind start ≡ None
+pub unsound_later : (start : Start) (entry : LogEntry) (entries : List LogEntry) (at : Place) (fault : SortFault) → entry_fault entry.kind start ≡ None
     → IsFirstUnsound (next entry.kind start) entries at fault → IsFirstUnsound start (entry ∷ entries) at fault
 unsound_later start entry entries at fault none first = record {
   before = entry ∷ first.before;
@@ -25,12 +25,12 @@ unsound_later start entry entries at fault none first = record {
   place = first.place;
 }
 
-found_later : (start : Start) (entry : LogEntry) (entries : List LogEntry) (found : Option (Place × SortFault)) → entry_fault entry.kind start ≡ None
+pub found_later : (start : Start) (entry : LogEntry) (entries : List LogEntry) (found : Option (Place × SortFault)) → entry_fault entry.kind start ≡ None
     → Found (next entry.kind start) entries found → Found start (entry ∷ entries) found
 found_later start entry entries None none all = (none, all)
 found_later start entry entries (Some (at, fault)) none first = unsound_later start entry entries at fault none first
 
-found_at : (start : Start) (entry : LogEntry) (entries : List LogEntry) (fault : Option SortFault) (later : Option (Place × SortFault))
+pub found_at : (start : Start) (entry : LogEntry) (entries : List LogEntry) (fault : Option SortFault) (later : Option (Place × SortFault))
     → entry_fault entry.kind start ≡ fault → Found (next entry.kind start) entries later → Found start (entry ∷ entries) (fault_or entry.at fault later)
 found_at start entry entries None later is behind = found_later start entry entries later is behind
 found_at start entry entries (Some fault) later is behind = record {
@@ -66,7 +66,7 @@ fault_behind start (entry ∷ before) behind (none, all) =
     ∙ fault_behind (next entry.kind start) before behind all
     ∙ ap (λ (s : Start). sort_fault s behind) (left_behind start entry before)
 
-unsound_fault : (start : Start) (entries : List LogEntry) (at : Place) (wrong : SortFault) → IsFirstUnsound start entries at wrong
+pub unsound_fault : (start : Start) (entries : List LogEntry) (at : Place) (wrong : SortFault) → IsFirstUnsound start entries at wrong
     → sort_fault start entries ≡ Some (at, wrong)
 unsound_fault start entries at wrong first =
     let here = left_by start (reverse first.before) in

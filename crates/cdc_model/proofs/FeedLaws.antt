@@ -21,7 +21,7 @@ use Rattle.cdc_model.proofs.OwnBranches.{has_is, own_append, HasFirst, present_o
 pub settled_order_is_exact : SettledOrderIsExact
 settled_order_is_exact count mark branches = ordered count mark branches
 
-dated_first : (branches : List CommittedBranch) (number : ℕ) (keys : List Key) → ((key : Key) → Contains keys key → HasFirst branches key)
+pub dated_first : (branches : List CommittedBranch) (number : ℕ) (keys : List Key) → ((key : Key) → Contains keys key → HasFirst branches key)
     → (txn : Transaction) → Contains (transactions_of branches number keys) txn → HasFirstSeconds txn
 dated_first branches number [] some txn within = absurd (contains_none txn within)
 dated_first branches number (key ∷ keys) some txn within =
@@ -39,23 +39,23 @@ seconds_are_the_firsts count mark branches txn within =
 
 -- ---- the least of some numbers
 
-least_below : (most low : ℕ) (numbers : List ℕ) → most ≤ low → least most numbers ≤ low
+pub least_below : (most low : ℕ) (numbers : List ℕ) → most ≤ low → least most numbers ≤ low
 least_below most low [] h = h
 least_below most low (number ∷ numbers) h = least_below (min most number) low numbers (omega (arith, h))
 
-least_first : (most : ℕ) (numbers : List ℕ) → least most numbers ≤ most
+pub least_first : (most : ℕ) (numbers : List ℕ) → least most numbers ≤ most
 least_first most numbers = least_below most most numbers (le_refl most)
 
-least_each : (most : ℕ) (numbers : List ℕ) → AllByRecursion (λ (number : ℕ). least most numbers ≤ number) numbers
+pub least_each : (most : ℕ) (numbers : List ℕ) → AllByRecursion (λ (number : ℕ). least most numbers ≤ number) numbers
 least_each most [] = tt
 least_each most (number ∷ numbers) =
     (least_below (min most number) number numbers (omega arith), least_each (min most number) numbers)
 
-lowest_each : (numbers : List ℕ) → AllByRecursion (λ (number : ℕ). low_water_mark numbers ≤ number) numbers
+pub lowest_each : (numbers : List ℕ) → AllByRecursion (λ (number : ℕ). low_water_mark numbers ≤ number) numbers
 lowest_each [] = tt
 lowest_each (number ∷ numbers) = (least_first number numbers, least_each number numbers)
 
-least_lower : (most more : ℕ) (lows highs : List ℕ) → most ≤ more → AllZip (λ (low high : ℕ). low ≤ high) lows highs → least most lows ≤ least more highs
+pub least_lower : (most more : ℕ) (lows highs : List ℕ) → most ≤ more → AllZip (λ (low high : ℕ). low ≤ high) lows highs → least most lows ≤ least more highs
 least_lower most more [] [] h all = h
 least_lower most more [] (high ∷ highs) h all = absurd all
 least_lower most more (low ∷ lows) [] h all = absurd all
@@ -67,7 +67,7 @@ lowest_lower [] (high ∷ highs) all = absurd all
 lowest_lower (low ∷ lows) [] all = absurd all
 lowest_lower (low ∷ lows) (high ∷ highs) (here, all) = least_lower low high lows highs here all
 
-zip_map : {X Y : Type 0} (f : X → ℕ) (g : Y → ℕ) (xs : List X) (ys : List Y) → AllZip (λ (x : X) (y : Y). f x ≤ g y) xs ys
+pub zip_map : {X Y : Type 0} (f : X → ℕ) (g : Y → ℕ) (xs : List X) (ys : List Y) → AllZip (λ (x : X) (y : Y). f x ≤ g y) xs ys
     → AllZip (λ (low high : ℕ). low ≤ high) (map f xs) (map g ys)
 zip_map f g [] [] all = tt
 zip_map f g [] (y ∷ ys) all = absurd all
@@ -80,7 +80,7 @@ zip_weaker R S weaker [] (y ∷ ys) all = absurd all
 zip_weaker R S weaker (x ∷ xs) [] all = absurd all
 zip_weaker R S weaker (x ∷ xs) (y ∷ ys) (here, all) = (weaker x y here, zip_weaker R S weaker xs ys all)
 
-all_mapped : {X : Type 0} (f : X → ℕ) (low : ℕ) (xs : List X) → AllByRecursion (λ (n : ℕ). low ≤ n) (map f xs) → AllByRecursion (λ (x : X). low ≤ f x) xs
+pub all_mapped : {X : Type 0} (f : X → ℕ) (low : ℕ) (xs : List X) → AllByRecursion (λ (n : ℕ). low ≤ n) (map f xs) → AllByRecursion (λ (x : X). low ≤ f x) xs
 all_mapped f low [] all = tt
 all_mapped f low (x ∷ xs) (here, all) = (here, all_mapped f low xs all)
 
@@ -127,7 +127,7 @@ grown_as_old old new grows key settled =
 
 -- ---- all feeds
 
-same_joined : (key : Key) (front back other rest : List CommittedBranch) → own_branches front key ≡ own_branches other key
+pub same_joined : (key : Key) (front back other rest : List CommittedBranch) → own_branches front key ≡ own_branches other key
     → own_branches back key ≡ own_branches rest key → own_branches (front ++ back) key ≡ own_branches (other ++ rest) key
 same_joined key front back other rest p q =
     own_append key front back
@@ -145,34 +145,34 @@ same_together f g mark (x ∷ xs) (y ∷ ys) (here, all) key settled =
     same_joined key (f x) (flat_map f xs) (g y) (flat_map g ys) (here key settled) (same_together f g mark xs ys all key settled)
 
 -- a fact on each second element, and a relation
-zip_with : {X Y : Type 0} (R : X → Y → Type 0) (P : Y → Type 0) (xs : List X) (ys : List Y) → AllByRecursion P ys → AllZip R xs ys
+pub zip_with : {X Y : Type 0} (R : X → Y → Type 0) (P : Y → Type 0) (xs : List X) (ys : List Y) → AllByRecursion P ys → AllZip R xs ys
     → AllZip (λ (x : X) (y : Y). R x y × P y) xs ys
 zip_with R P [] [] each all = tt
 zip_with R P [] (y ∷ ys) each all = absurd all
 zip_with R P (x ∷ xs) [] each all = absurd all
 zip_with R P (x ∷ xs) (y ∷ ys) (first, each) (here, all) = ((here, first), zip_with R P xs ys each all)
 
-zip_with_first : {X Y : Type 0} (R : X → Y → Type 0) (P : X → Type 0) (xs : List X) (ys : List Y) → AllByRecursion P xs → AllZip R xs ys
+pub zip_with_first : {X Y : Type 0} (R : X → Y → Type 0) (P : X → Type 0) (xs : List X) (ys : List Y) → AllByRecursion P xs → AllZip R xs ys
     → AllZip (λ (x : X) (y : Y). R x y × P x) xs ys
 zip_with_first R P [] [] each all = tt
 zip_with_first R P [] (y ∷ ys) each all = absurd all
 zip_with_first R P (x ∷ xs) [] each all = absurd all
 zip_with_first R P (x ∷ xs) (y ∷ ys) (first, each) (here, all) = ((here, first), zip_with_first R P xs ys each all)
 
-zip_turned : {X Y : Type 0} (R : X → Y → Type 0) (xs : List X) (ys : List Y) → AllZip R xs ys → AllZip (λ (y : Y) (x : X). R x y) ys xs
+pub zip_turned : {X Y : Type 0} (R : X → Y → Type 0) (xs : List X) (ys : List Y) → AllZip R xs ys → AllZip (λ (y : Y) (x : X). R x y) ys xs
 zip_turned R [] [] all = tt
 zip_turned R [] (y ∷ ys) all = absurd all
 zip_turned R (x ∷ xs) [] all = absurd all
 zip_turned R (x ∷ xs) (y ∷ ys) (here, all) = (here, zip_turned R xs ys all)
 
 -- the marks of numbered logs are those of the logs
-numbered_marks : (number : ℕ) (logs : List NodeLog)
+pub numbered_marks : (number : ℕ) (logs : List NodeLog)
     → map (λ (node : ℕ × NodeLog). node_low_water_mark (reached node.1)) (enumerate_from number logs) ≡ map (λ (log : NodeLog). node_low_water_mark (reached log)) logs
 numbered_marks number [] = refl
 numbered_marks number (log ∷ logs) =
     ap (λ (list : List ℕ). node_low_water_mark (reached log) ∷ list) (numbered_marks (number + 1) logs)
 
-told_marks : (logs : List NodeLog) (feeds : List NodeFeed) → AreToldOf logs feeds
+pub told_marks : (logs : List NodeLog) (feeds : List NodeFeed) → AreToldOf logs feeds
     → map (λ (feed : NodeFeed). feed.bound) feeds ≡ map (λ (log : NodeLog). node_low_water_mark (reached log)) logs
 told_marks [] [] all = refl
 told_marks [] (feed ∷ feeds) all = absurd all

@@ -37,25 +37,25 @@ pub record StandsFor (rules : List Rename) (rotation : ℕ) (txns : List Transac
 
 -- ---- the bytes of the open file
 
-begun_kept : (file : List ℕ) → 1 ≤ length file → file_begun file ≡ file
+pub begun_kept : (file : List ℕ) → 1 ≤ length file → file_begun file ≡ file
 begun_kept [] some = absurd (omega arith)
 begun_kept (byte ∷ bytes) some = refl
 
-open_kept : (file : List ℕ) → 1 ≤ length file → open_file file ≡ file ∷ []
+pub open_kept : (file : List ℕ) → 1 ≤ length file → open_file file ≡ file ∷ []
 open_kept [] some = absurd (omega arith)
 open_kept (byte ∷ bytes) some = refl
 
 -- the next print goes behind those of the open file
-begun_with : (rules : List Rename) (txns : List Transaction) → file_begun (begun_bytes rules txns) ≡ file_with rules txns
+pub begun_with : (rules : List Rename) (txns : List Transaction) → file_begun (begun_bytes rules txns) ≡ file_with rules txns
 begun_with rules [] = sym (append-nil file_head)
 begun_with rules (txn ∷ txns) = begun_kept (file_with rules (txn ∷ txns)) (file_begins rules (txn ∷ txns))
 
-begun_more : (rules : List Rename) (txns : List Transaction) (txn : Transaction)
+pub begun_more : (rules : List Rename) (txns : List Transaction) (txn : Transaction)
     → file_with rules (txns ++ txn ∷ []) ≡ begun_bytes rules (txns ++ txn ∷ [])
 begun_more rules [] txn = refl
 begun_more rules (first ∷ txns) txn = refl
 
-printed_behind : (rules : List Rename) (txns : List Transaction) (txn : Transaction) (current : List ℕ) → current ≡ begun_bytes rules txns
+pub printed_behind : (rules : List Rename) (txns : List Transaction) (txn : Transaction) (current : List ℕ) → current ≡ begun_bytes rules txns
     → file_begun current ++ printed_bytes rules txn (length (file_begun current)) ≡ file_with rules (txns ++ txn ∷ [])
 printed_behind rules txns txn current is =
     ap (λ (file : List ℕ). file ++ printed_bytes rules txn (length file)) (ap file_begun is ∙ begun_with rules txns) ∙ sym (file_more rules txns txn)
@@ -66,22 +66,22 @@ printed_behind rules txns txn current is =
 abbrev in_closed : List (List Transaction) → List Transaction
 in_closed lists = flat_map (λ (list : List Transaction). list) lists
 
-behind_begun : (lists : List (List Transaction)) (begun txns : List Transaction) (txn : Transaction) → in_closed lists ++ begun ≡ txns
+pub behind_begun : (lists : List (List Transaction)) (begun txns : List Transaction) (txn : Transaction) → in_closed lists ++ begun ≡ txns
     → in_closed lists ++ (begun ++ txn ∷ []) ≡ txns ++ txn ∷ []
 behind_begun lists begun txns txn is =
     sym (append_assoc (in_closed lists) begun (txn ∷ [])) ∙ ap (λ (list : List Transaction). list ++ txn ∷ []) is
 
-one_list_more : (lists : List (List Transaction)) (list : List Transaction) → in_closed (lists ++ list ∷ []) ≡ in_closed lists ++ list
+pub one_list_more : (lists : List (List Transaction)) (list : List Transaction) → in_closed (lists ++ list ∷ []) ≡ in_closed lists ++ list
 one_list_more lists list =
     flat_map-append (λ (list : List Transaction). list) lists (list ∷ []) ∙ ap (λ (last : List Transaction). in_closed lists ++ last) (append-nil list)
 
-rotated : (rotation number next : ℕ) (file : List ℕ) → leb rotation (length file) ≡ true → next ≡ number + 1
+pub rotated : (rotation number next : ℕ) (file : List ℕ) → leb rotation (length file) ≡ true → next ≡ number + 1
     → file ++ rotate_event (length file) next ≡ closed_where_full rotation number file
 rotated rotation number next file full is =
     ap (λ (n : ℕ). file ++ rotate_event (length file) n) is
     ∙ sym (ap (λ (b : Bool). if b then file ++ rotate_event (length file) (number + 1) else file) full)
 
-not_rotated : (rotation number : ℕ) (file : List ℕ) → leb rotation (length file) ≡ false → file ≡ closed_where_full rotation number file
+pub not_rotated : (rotation number : ℕ) (file : List ℕ) → leb rotation (length file) ≡ false → file ≡ closed_where_full rotation number file
 not_rotated rotation number file unfilled =
     sym (ap (λ (b : Bool). if b then file ++ rotate_event (length file) (number + 1) else file) unfilled)
 
@@ -91,7 +91,7 @@ reached_by full closed file =
     if full then record { closed = closed ++ (file ++ rotate_event (length file) (length closed + 2)) ∷ []; current = [] }
     else record { closed = closed; current = file }
 
-stands_reached : (rules : List Rename) (rotation : ℕ) (txns : List Transaction) (txn : Transaction) (output : Output) (stands : StandsFor rules rotation txns output)
+pub stands_reached : (rules : List Rename) (rotation : ℕ) (txns : List Transaction) (txn : Transaction) (output : Output) (stands : StandsFor rules rotation txns output)
     (full : Bool) → leb rotation (length (file_with rules (stands.begun ++ txn ∷ []))) ≡ full
     → StandsFor rules rotation (txns ++ txn ∷ []) (reached_by full output.closed (file_with rules (stands.begun ++ txn ∷ [])))
 stands_reached rules rotation txns txn output stands true is =
@@ -119,14 +119,14 @@ stands_reached rules rotation txns txn output stands false is = record {
   unfilled = still_unfilled rules rotation stands.begun txn stands.unfilled (leb-false rotation (length (file_with rules (stands.begun ++ txn ∷ []))) is);
 }
 
-stands_with : (rules : List Rename) (rotation : ℕ) (txns : List Transaction) (txn : Transaction) (output : Output)
+pub stands_with : (rules : List Rename) (rotation : ℕ) (txns : List Transaction) (txn : Transaction) (output : Output)
     → StandsFor rules rotation txns output → StandsFor rules rotation (txns ++ txn ∷ []) (output_with rules rotation output txn)
 stands_with rules rotation txns txn output stands =
     subst (λ (file : List ℕ). StandsFor rules rotation (txns ++ txn ∷ []) (file_reached rotation output.closed file))
     (sym (printed_behind rules stands.begun txn output.current stands.bytes))
     (stands_reached rules rotation txns txn output stands (leb rotation (length (file_with rules (stands.begun ++ txn ∷ [])))) refl)
 
-stands_after : (rules : List Rename) (rotation : ℕ) (front : List Transaction) (output : Output) (txns : List Transaction)
+pub stands_after : (rules : List Rename) (rotation : ℕ) (front : List Transaction) (output : Output) (txns : List Transaction)
     → StandsFor rules rotation front output → StandsFor rules rotation (front ++ txns) (output_after rules rotation output txns)
 stands_after rules rotation front output [] stands =
     subst (λ (list : List Transaction). StandsFor rules rotation list output) (sym (append-nil front)) stands
@@ -137,7 +137,7 @@ stands_after rules rotation front output (txn ∷ txns) stands =
 
 -- ---- all files
 
-open_output_file : (rules : List Rename) (rotation : ℕ) (txns : List Transaction) → 1 ≤ length txns → FillNone rules rotation txns
+pub open_output_file : (rules : List Rename) (rotation : ℕ) (txns : List Transaction) → 1 ≤ length txns → FillNone rules rotation txns
     → (number : ℕ) → IsOutputFile rules rotation number txns (file_with rules txns)
 open_output_file rules rotation txns some unfilled number = record {
   some = some;
@@ -147,7 +147,7 @@ open_output_file rules rotation txns some unfilled number = record {
   not_before = λ front back is some more. unfilled front back is some;
 }
 
-files_of_begun : (rules : List Rename) (rotation : ℕ) (txns : List Transaction) (lists : List (List Transaction)) (begun : List Transaction) (closed : List (List ℕ))
+pub files_of_begun : (rules : List Rename) (rotation : ℕ) (txns : List Transaction) (lists : List (List Transaction)) (begun : List Transaction) (closed : List (List ℕ))
     → in_closed lists ++ begun ≡ txns → AreClosedFiles rules rotation 1 lists closed → FillNone rules rotation begun
     → AreFilesOf rules rotation txns (closed ++ open_file (begun_bytes rules begun))
 files_of_begun rules rotation txns lists [] closed is full unfilled = record {
@@ -164,13 +164,13 @@ files_of_begun rules rotation txns lists (txn ∷ begun) closed is full unfilled
       (last_open rules rotation 1 lists closed (txn ∷ begun) (file_with rules (txn ∷ begun)) full (open_output_file rules rotation (txn ∷ begun) (omega arith) unfilled));
 }
 
-all_files : (rules : List Rename) (rotation : ℕ) (txns : List Transaction) (output : Output)
+pub all_files : (rules : List Rename) (rotation : ℕ) (txns : List Transaction) (output : Output)
     → StandsFor rules rotation txns output → AreFilesOf rules rotation txns (files_in output)
 all_files rules rotation txns output stands =
     subst (λ (current : List ℕ). AreFilesOf rules rotation txns (output.closed ++ open_file current)) (sym stands.bytes)
     (files_of_begun rules rotation txns stands.lists stands.begun output.closed stands.in_order stands.full stands.unfilled)
 
-nothing_stands : (rules : List Rename) (rotation : ℕ) → StandsFor rules rotation [] no_output
+pub nothing_stands : (rules : List Rename) (rotation : ℕ) → StandsFor rules rotation [] no_output
 nothing_stands rules rotation = record {
   lists = [];
   begun = [];

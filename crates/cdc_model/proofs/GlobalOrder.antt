@@ -16,13 +16,13 @@ pub keys_kept : (branches : List CommittedBranch) (number : ℕ) (keys : List Ke
 keys_kept branches number [] = refl
 keys_kept branches number (key ∷ keys) = ap (λ (rest : List Key). key ∷ rest) (keys_kept branches (number + 1) keys)
 
-numbered : (branches : List CommittedBranch) (number : ℕ) (keys : List Key)
+pub numbered : (branches : List CommittedBranch) (number : ℕ) (keys : List Key)
     → map (λ (txn : Transaction). txn.number) (transactions_of branches number keys) ≡ numbers_from number (length (transactions_of branches number keys))
 numbered branches number [] = refl
 numbered branches number (key ∷ keys) = ap (λ (rest : List ℕ). number ∷ rest) (numbered branches (number + 1) keys)
 
 -- what is true of each transaction made is true of each in the list
-each_made : (P : Transaction → Type 0) (branches : List CommittedBranch) → ((number : ℕ) (key : Key) → P (transaction_of branches number key))
+pub each_made : (P : Transaction → Type 0) (branches : List CommittedBranch) → ((number : ℕ) (key : Key) → P (transaction_of branches number key))
     → (number : ℕ) (keys : List Key) (txn : Transaction) → Contains (transactions_of branches number keys) txn → P txn
 each_made P branches made number [] txn within = absurd (contains_none txn within)
 each_made P branches made number (key ∷ keys) txn within =
@@ -31,7 +31,7 @@ each_made P branches made number (key ∷ keys) txn within =
       | inr later ↦ each_made P branches made (number + 1) keys txn later
     ]
 
-exact : (mark : ℕ) (branches : List CommittedBranch) (number : ℕ) (key : Key)
+pub exact : (mark : ℕ) (branches : List CommittedBranch) (number : ℕ) (key : Key)
     → Contains (keys_in (transactions_of branches number (settled_keys mark branches))) key ↔ IsSettledKey mark branches None key
 exact mark branches number key =
     let kept = keys_kept branches number (settled_keys mark branches) in

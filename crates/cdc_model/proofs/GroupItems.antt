@@ -21,18 +21,18 @@ use Rattle.cdc_model.proofs.GroupRuns.{Leads, Passes, passes_on, runs_then, ends
 
 -- ---- signs that lead nowhere
 
-gtid_leads : (timestamp seconds : ℕ) (sign : Sign) → is_gtid sign ≡ true → Leads (Wait timestamp) seconds sign (Wait timestamp) None
+pub gtid_leads : (timestamp seconds : ℕ) (sign : Sign) → is_gtid sign ≡ true → Leads (Wait timestamp) seconds sign (Wait timestamp) None
 gtid_leads timestamp seconds Gtid h = record { fits = refl; to = refl; gives = refl }
 gtid_leads timestamp seconds _ h = absurd (no_test h)
 
-silent_leads : (time : Option ℕ) (xid : Xid) (content : Content) (seconds : ℕ) (sign : Sign) → is_silent sign ≡ true
+pub silent_leads : (time : Option ℕ) (xid : Xid) (content : Content) (seconds : ℕ) (sign : Sign) → is_silent sign ≡ true
     → Leads (Xa time xid content) seconds sign (Xa time xid content) None
 silent_leads time xid content seconds Gtid h = record { fits = refl; to = refl; gives = refl }
 silent_leads time xid content seconds Quiet h = record { fits = refl; to = refl; gives = refl }
 silent_leads time xid content seconds SavepointText h = record { fits = refl; to = refl; gives = refl }
 silent_leads time xid content seconds _ h = absurd (no_test h)
 
-quiet_leads : (time : Option ℕ) (xid : Xid) (content : Content) (seconds : ℕ) (sign : Sign) → is_quiet sign ≡ true
+pub quiet_leads : (time : Option ℕ) (xid : Xid) (content : Content) (seconds : ℕ) (sign : Sign) → is_quiet sign ≡ true
     → Leads (End time xid content) seconds sign (End time xid content) None
 quiet_leads time xid content seconds Gtid h = record { fits = refl; to = refl; gives = refl }
 quiet_leads time xid content seconds Quiet h = record { fits = refl; to = refl; gives = refl }
@@ -45,10 +45,10 @@ quiet_leads time xid content seconds _ h = absurd (no_test h)
 abbrev xa_rows : Option ℕ → Xid → List Row → Progress
 xa_rows time xid rows = Xa time xid (TableRows rows)
 
-no_row : (at : List Row → Progress) (rows : List Row) → at rows ≡ at (rows ++ [])
+pub no_row : (at : List Row → Progress) (rows : List Row) → at rows ≡ at (rows ++ [])
 no_row at rows = ap at (sym (append-nil rows))
 
-unmarked_leads : (time : Option ℕ) (xid : Xid) (rows : List Row) (seconds : ℕ) (sign : Sign) → is_unmarked sign ≡ true
+pub unmarked_leads : (time : Option ℕ) (xid : Xid) (rows : List Row) (seconds : ℕ) (sign : Sign) → is_unmarked sign ≡ true
     → Leads (xa_rows time xid rows) seconds sign (xa_rows time xid (rows ++ option_to_list (row_of sign))) None
 unmarked_leads time xid rows seconds Gtid h = record { fits = refl; to = no_row (xa_rows time xid) rows; gives = refl }
 unmarked_leads time xid rows seconds Quiet h = record { fits = refl; to = no_row (xa_rows time xid) rows; gives = refl }
@@ -56,7 +56,7 @@ unmarked_leads time xid rows seconds SavepointText h = record { fits = refl; to 
 unmarked_leads time xid rows seconds (RowEvent row) h = record { fits = refl; to = refl; gives = refl }
 unmarked_leads time xid rows seconds _ h = absurd (no_test h)
 
-inner_leads : (rows : List Row) (seconds : ℕ) (sign : Sign) → is_inner sign ≡ true
+pub inner_leads : (rows : List Row) (seconds : ℕ) (sign : Sign) → is_inner sign ≡ true
     → Leads (Local rows) seconds sign (Local (rows ++ option_to_list (row_of sign))) None
 inner_leads rows seconds Gtid h = record { fits = refl; to = no_row Local rows; gives = refl }
 inner_leads rows seconds Quiet h = record { fits = refl; to = no_row Local rows; gives = refl }
@@ -69,11 +69,11 @@ inner_leads rows seconds _ h = absurd (no_test h)
 -- ---- unfinished items
 
 -- what is said of a sign is so of the event that has it
-led_by : (progress next : Progress) (event : SignedEvent) (sign : Sign) (kind : Option EntryKind) → Says event sign
+pub led_by : (progress next : Progress) (event : SignedEvent) (sign : Sign) (kind : Option EntryKind) → Says event sign
     → Leads progress event.seconds sign next kind → Leads progress event.seconds event.sign next kind
 led_by progress next event sign kind says led = subst (λ (s : Sign). Leads progress event.seconds s next kind) (sym says) led
 
-stamp_passes : (file timestamp : ℕ) (events : List SignedEvent) → IsStamp timestamp events → Passes file Out events (Wait timestamp)
+pub stamp_passes : (file timestamp : ℕ) (events : List SignedEvent) → IsStamp timestamp events → Passes file Out events (Wait timestamp)
 stamp_passes file timestamp events (stamp, gtids, is, says, all) =
     subst (λ (list : List SignedEvent). Passes file Out list (Wait timestamp)) (sym is)
     (passes_on file Out (Wait timestamp) (Wait timestamp) stamp gtids
@@ -85,15 +85,15 @@ abbrev before_group : Option ℕ → Progress
 before_group None = Out
 before_group (Some timestamp) = Wait timestamp
 
-start_leads : (time : Option ℕ) (xid : Xid) (seconds : ℕ) → Leads (before_group time) seconds (XaStartText xid) (Xa time xid (TableRows [])) None
+pub start_leads : (time : Option ℕ) (xid : Xid) (seconds : ℕ) → Leads (before_group time) seconds (XaStartText xid) (Xa time xid (TableRows [])) None
 start_leads None xid seconds = record { fits = refl; to = refl; gives = refl }
 start_leads (Some timestamp) xid seconds = record { fits = refl; to = refl; gives = refl }
 
-timed_passes : (file : ℕ) (time : Option ℕ) (events : List SignedEvent) → IsTimed time events → Passes file Out events (before_group time)
+pub timed_passes : (file : ℕ) (time : Option ℕ) (events : List SignedEvent) → IsTimed time events → Passes file Out events (before_group time)
 timed_passes file None events is = ap (outcome file Out) is
 timed_passes file (Some timestamp) events stamp = stamp_passes file timestamp events stamp
 
-body_passes : (file : ℕ) (time : Option ℕ) (xid : Xid) (content : Content) (body : List SignedEvent) → IsGroupBody content body
+pub body_passes : (file : ℕ) (time : Option ℕ) (xid : Xid) (content : Content) (body : List SignedEvent) → IsGroupBody content body
     → Passes file (Xa time xid (TableRows [])) body (Xa time xid content)
 body_passes file time xid (TableRows rows) body (all, is) =
     subst (λ (list : List Row). Passes file (Xa time xid (TableRows [])) body (Xa time xid (TableRows list))) (sym is)
@@ -106,7 +106,7 @@ body_passes file time xid (OneStatement row) body (before, after, statement, is,
     (led_by (Xa time xid (TableRows [])) (Xa time xid (OneStatement row)) statement (Ddl row) None says record { fits = refl; to = refl; gives = refl })
     (all_pass file (Xa time xid (OneStatement row)) is_silent (silent_leads time xid (OneStatement row)) after later))
 
-begun_passes : (file : ℕ) (time : Option ℕ) (xid : Xid) (content : Content) (events : List SignedEvent) → IsBegunXa xid content events
+pub begun_passes : (file : ℕ) (time : Option ℕ) (xid : Xid) (content : Content) (events : List SignedEvent) → IsBegunXa xid content events
     → Passes file (before_group time) events (Xa time xid content)
 begun_passes file time xid content events (start, body, is, says, holds) =
     subst (λ (list : List SignedEvent). Passes file (before_group time) list (Xa time xid content)) (sym is)
@@ -121,7 +121,7 @@ named xid fault = ap (λ (b : Bool). if b then fault else Some XidDiffers) (same
 pub end_leads : (time : Option ℕ) (xid : Xid) (content : Content) (seconds : ℕ) → Leads (Xa time xid content) seconds (XaEndText xid) (End time xid content) None
 end_leads time xid content seconds = record { fits = named xid None; to = refl; gives = refl }
 
-ended_passes : (file : ℕ) (time : Option ℕ) (xid : Xid) (content : Content) (events : List SignedEvent) → IsEndedXa xid content events
+pub ended_passes : (file : ℕ) (time : Option ℕ) (xid : Xid) (content : Content) (events : List SignedEvent) → IsEndedXa xid content events
     → Passes file (before_group time) events (End time xid content)
 ended_passes file time xid content events (begun, quiets, end, is, begins, says, all) =
     subst (λ (list : List SignedEvent). Passes file (before_group time) list (End time xid content)) (sym is)
@@ -130,7 +130,7 @@ ended_passes file time xid content events (begun, quiets, end, is, begins, says,
     (led_by (Xa time xid content) (End time xid content) end (XaEndText xid) None says (end_leads time xid content end.seconds))
     (all_pass file (End time xid content) is_quiet (quiet_leads time xid content) quiets all))
 
-local_passes : (file : ℕ) (rows : List Row) (events : List SignedEvent) → IsBegunLocal rows events → Passes file Out events (Local rows)
+pub local_passes : (file : ℕ) (rows : List Row) (events : List SignedEvent) → IsBegunLocal rows events → Passes file Out events (Local rows)
 local_passes file rows events (begin, body, is, says, all, are) =
     subst (λ (list : List SignedEvent). Passes file Out list (Local rows)) (sym is)
     (passes_on file Out (Local []) (Local rows) begin body
@@ -138,7 +138,7 @@ local_passes file rows events (begin, body, is, says, all, are) =
     (subst (λ (list : List Row). Passes file (Local []) body (Local list)) (sym are) (rows_pass file Local is_inner inner_leads [] body all)))
 
 -- a group behind what may stand before it
-group_passes : (file : ℕ) (time : Option ℕ) (progress : Progress) (events stamp group : List SignedEvent) → events ≡ stamp ++ group → IsTimed time stamp
+pub group_passes : (file : ℕ) (time : Option ℕ) (progress : Progress) (events stamp group : List SignedEvent) → events ≡ stamp ++ group → IsTimed time stamp
     → Passes file (before_group time) group progress → Passes file Out events progress
 group_passes file time progress events stamp group is timed rest =
     ap (outcome file Out) is ∙ runs_then file Out (before_group time) stamp group (timed_passes file time stamp timed) ∙ rest
@@ -158,27 +158,27 @@ reaches_passes file part (Local rows) begun = local_passes file rows part begun
 abbrev log_entry : EntryKind → Place → Place → ℕ → LogEntry
 log_entry kind at end checksum = record { kind = kind; at = at; end = end; checksum = checksum }
 
-entry_is : (file : ℕ) (last : SignedEvent) (entry : LogEntry) → StandsAt file last entry → entry_at file last entry.kind ≡ entry
+pub entry_is : (file : ℕ) (last : SignedEvent) (entry : LogEntry) → StandsAt file last entry → entry_at file last entry.kind ≡ entry
 entry_is file last entry stands =
     ap (λ (at : Place). log_entry entry.kind at record { file = file; at = last.end } last.checksum) (sym stands.at)
     ∙ ap (λ (end : Place). log_entry entry.kind entry.at end last.checksum) (sym stands.end)
     ∙ ap (log_entry entry.kind entry.at entry.end) (sym stands.checksum)
 
-not_zero : (n : ℕ) → n ≢ 0 → (n == 0) ≡ false
+pub not_zero : (n : ℕ) → n ≢ 0 → (n == 0) ≡ false
 not_zero n not = grind (arith, nat_tests)
 
-one_phase_fits : (timestamp one_phase : ℕ) → one_phase ≢ 0 → misfit_phase (Some timestamp) one_phase ≡ None
+pub one_phase_fits : (timestamp one_phase : ℕ) → one_phase ≢ 0 → misfit_phase (Some timestamp) one_phase ≡ None
 one_phase_fits timestamp one_phase not = rw (not_zero one_phase not)
 
-prepare_leads : (time : Option ℕ) (xid : Xid) (content : Content) (one_phase seconds : ℕ) → misfit_phase time one_phase ≡ None
+pub prepare_leads : (time : Option ℕ) (xid : Xid) (content : Content) (one_phase seconds : ℕ) → misfit_phase time one_phase ≡ None
     → Leads (End time xid content) seconds (PrepareEvent one_phase xid) Out (Some (prepared time seconds (Prepare xid (rows_of content))))
 prepare_leads time xid content one_phase seconds fits = record { fits = named xid (misfit_phase time one_phase) ∙ fits; to = refl; gives = refl }
 
 -- the progress at which the last event of an entry finds what stands before it
-data LastOf (file : ℕ) (kind : EntryKind) (front : List SignedEvent) (last : SignedEvent) : Type 0 where
+pub data LastOf (file : ℕ) (kind : EntryKind) (front : List SignedEvent) (last : SignedEvent) : Type 0 where
   last_of : (progress : Progress) → Passes file Out front progress → Leads progress last.seconds last.sign Out (Some kind) → LastOf file kind front last
 
-entry_last : (file : ℕ) (kind : EntryKind) (front : List SignedEvent) (last : SignedEvent) → IsEntryOf kind front last → LastOf file kind front last
+pub entry_last : (file : ℕ) (kind : EntryKind) (front : List SignedEvent) (last : SignedEvent) → IsEntryOf kind front last → LastOf file kind front last
 entry_last file (Beat timestamp) front last (is, says) =
     last_of Out (ap (outcome file Out) is) (led_by Out Out last (BeatTime timestamp) (Some (Beat timestamp)) says record { fits = refl; to = refl; gives = refl })
 entry_last file (Commit xid timestamp seconds) front last (stamp, says, at) =
@@ -205,7 +205,7 @@ entry_last file (OnePhase xid rows timestamp seconds) front last (stamp, group, 
     (subst (λ (s : ℕ). Leads (End (Some timestamp) xid content) last.seconds (PrepareEvent one_phase xid) Out (Some (OnePhase xid (rows_of content) timestamp s))) (sym at)
     (prepare_leads (Some timestamp) xid content one_phase last.seconds (one_phase_fits timestamp one_phase phase)))))
 
-passed_leads : (seconds : ℕ) (sign : Sign) → is_passed sign ≡ true → Leads Out seconds sign Out None
+pub passed_leads : (seconds : ℕ) (sign : Sign) → is_passed sign ≡ true → Leads Out seconds sign Out None
 passed_leads seconds Gtid h = record { fits = refl; to = refl; gives = refl }
 passed_leads seconds Quiet h = record { fits = refl; to = refl; gives = refl }
 passed_leads seconds (Ddl row) h = record { fits = refl; to = refl; gives = refl }
@@ -216,7 +216,7 @@ passed_leads seconds SavepointText h = record { fits = refl; to = refl; gives = 
 passed_leads seconds OtherText h = record { fits = refl; to = refl; gives = refl }
 passed_leads seconds _ h = absurd (no_test h)
 
-item_runs : (file : ℕ) (events : List SignedEvent) (entry : Option LogEntry) → IsItem file (events, entry)
+pub item_runs : (file : ℕ) (events : List SignedEvent) (entry : Option LogEntry) → IsItem file (events, entry)
     → outcome file Out events ≡ (option_to_list entry, Reached Out)
 item_runs file events None (inl (passed, is, test)) =
     ap (outcome file Out) is ∙ passes_on file Out Out Out passed [] (passed_leads passed.seconds passed.sign test) refl
@@ -232,7 +232,7 @@ item_runs file events (Some entry) (front, last, is, makes, stands) =
         ends_entry file progress front last (Some entry.kind) passes led
         ∙ ap (λ (e : LogEntry). (e ∷ [], Reached Out)) (entry_is file last entry stands)
 
-items_run : (file : ℕ) (items : List (List SignedEvent × Option LogEntry)) → AllByRecursion (IsItem file) items
+pub items_run : (file : ℕ) (items : List (List SignedEvent × Option LogEntry)) → AllByRecursion (IsItem file) items
     → outcome file Out (flat_map (λ (item : List SignedEvent × Option LogEntry). item.0) items)
     ≡ (filter_map (λ (item : List SignedEvent × Option LogEntry). item.1) items, Reached Out)
 items_run file [] all = refl

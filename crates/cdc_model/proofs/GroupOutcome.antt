@@ -18,13 +18,13 @@ use Rattle.cdc_model.proofs.GroupRuns.{outcome_led}
 use Rattle.cdc_model.proofs.GroupReading.{reads_on, reads_nothing, told_misfits}
 
 -- a run that ceases: the events before the one with which it does, and how far they have come
-record Ceased (file : ℕ) (progress : Progress) (events : List SignedEvent) (entries : List LogEntry) (misplaced : SignedEvent) (fault : GroupFault) : Type 0 where
-  front : List SignedEvent
-  behind : List SignedEvent
-  last : Progress
-  events_in_order : events ≡ front ++ misplaced ∷ behind
-  passes : outcome file progress front ≡ (entries, Reached last)
-  told : misfit last misplaced.sign ≡ Some fault
+pub record Ceased (file : ℕ) (progress : Progress) (events : List SignedEvent) (entries : List LogEntry) (misplaced : SignedEvent) (fault : GroupFault) : Type 0 where
+  pub front : List SignedEvent
+  pub behind : List SignedEvent
+  pub last : Progress
+  pub events_in_order : events ≡ front ++ misplaced ∷ behind
+  pub passes : outcome file progress front ≡ (entries, Reached last)
+  pub told : misfit last misplaced.sign ≡ Some fault
 
 -- the event that a run ceases with, and what is wrong with it
 abbrev misplaced_by : SignedEvent → Ending → SignedEvent
@@ -35,7 +35,7 @@ abbrev fault_by : Ending → GroupFault
 fault_by (Reached progress) = OutOfPlace
 fault_by (Misplaced event fault) = fault
 
-ceased_first : (file : ℕ) (progress : Progress) (event : SignedEvent) (events : List SignedEvent) (misplaced : SignedEvent) (fault : GroupFault) (told : Option GroupFault)
+pub ceased_first : (file : ℕ) (progress : Progress) (event : SignedEvent) (events : List SignedEvent) (misplaced : SignedEvent) (fault : GroupFault) (told : Option GroupFault)
     → misfit progress event.sign ≡ told
     → ((outcome file (advance progress event.sign) events).1 ≡ Misplaced misplaced fault
     → Ceased file (advance progress event.sign) events (outcome file (advance progress event.sign) events).0 misplaced fault)
@@ -60,7 +60,7 @@ ceased_first file progress event events misplaced fault (Some wrong) told later 
   told = ap (λ (e : SignedEvent). misfit progress e.sign) (sym (ap (misplaced_by event) is)) ∙ told ∙ ap (λ (f : GroupFault). Some f) (ap fault_by is);
 }
 
-ceased : (file : ℕ) (progress : Progress) (events : List SignedEvent) (misplaced : SignedEvent) (fault : GroupFault)
+pub ceased : (file : ℕ) (progress : Progress) (events : List SignedEvent) (misplaced : SignedEvent) (fault : GroupFault)
     → (outcome file progress events).1 ≡ Misplaced misplaced fault → Ceased file progress events (outcome file progress events).0 misplaced fault
 ceased file progress [] misplaced fault is = absurd (let e = is in cc)
 ceased file progress (event ∷ events) misplaced fault is =
@@ -71,7 +71,7 @@ abbrev pub fault_of : ℕ → Option (ℕ × FileFault) → Ending → Option (P
 fault_of file ended (Reached progress) = file_fault file ended
 fault_of file ended (Misplaced event fault) = Some (record { file = file; at = event.at }, Group fault)
 
-entries_by : (file : ℕ) (events : List SignedEvent) (ended : Option (ℕ × FileFault)) (end : Ending) → (outcome file Out events).1 ≡ end
+pub entries_by : (file : ℕ) (events : List SignedEvent) (ended : Option (ℕ × FileFault)) (end : Ending) → (outcome file Out events).1 ≡ end
     → AreEntriesOfEvents file events ended (outcome file Out events).0 (fault_of file ended end)
 entries_by file events ended (Reached progress) is = inl (progress, reads_on file events [] [] Out progress (reads_nothing file) is, refl)
 entries_by file events ended (Misplaced misplaced fault) is = inr (misplaced, fault, ceases, refl)

@@ -34,7 +34,7 @@ reached_by (Reached progress) = progress
 reached_by (Misplaced event fault) = Out
 
 -- a run has one end
-one_outcome : (o : List LogEntry × Ending) (entries others : List LogEntry) (progress other : Progress)
+pub one_outcome : (o : List LogEntry × Ending) (entries others : List LogEntry) (progress other : Progress)
     → o ≡ (entries, Reached progress) → o ≡ (others, Reached other) → (entries ≡ others) × (progress ≡ other)
 one_outcome o entries others progress other first second =
     let same : (entries, Reached progress) ≡ (others, Reached other) = sym first ∙ second in
@@ -51,12 +51,12 @@ one_progress file events entries others progress other first second =
 
 -- ---- a run that ends at a progress has read its events
 
-all_items_more : (file : ℕ) (items : List (List SignedEvent × Option LogEntry)) (item : List SignedEvent × Option LogEntry)
+pub all_items_more : (file : ℕ) (items : List (List SignedEvent × Option LogEntry)) (item : List SignedEvent × Option LogEntry)
     → AllByRecursion (IsItem file) items → IsItem file item → AllByRecursion (IsItem file) (items ++ item ∷ [])
 all_items_more file [] item all last = (last, tt)
 all_items_more file (first ∷ items) item (here, all) last = (here, all_items_more file items item all last)
 
-reads_more : (file : ℕ) (events more : List SignedEvent) (entries : List LogEntry) (entry : Option LogEntry)
+pub reads_more : (file : ℕ) (events more : List SignedEvent) (entries : List LogEntry) (entry : Option LogEntry)
     → ReadsItems file events entries → IsItem file (more, entry) → ReadsItems file (events ++ more) (entries ++ option_to_list entry)
 reads_more file events more entries entry reads item = record {
   items = reads.items ++ (more, entry) ∷ [];
@@ -70,7 +70,7 @@ reads_more file events more entries entry reads item = record {
       ∙ sym (filter_map-append (λ (i : List SignedEvent × Option LogEntry). i.1) reads.items ((more, entry) ∷ []));
 }
 
-reads_one_more : (file : ℕ) (front : List SignedEvent) (entries : List LogEntry) (progress next : Progress) (event : SignedEvent) (entry : Option LogEntry)
+pub reads_one_more : (file : ℕ) (front : List SignedEvent) (entries : List LogEntry) (progress next : Progress) (event : SignedEvent) (entry : Option LogEntry)
     → (reads : ReadsTo file front entries progress) → Goes file reads.part event next entry
     → ReadsTo file (front ++ event ∷ []) (entries ++ option_to_list entry) next
 reads_one_more file front entries progress next event entry reads (inl (reaches, none)) = record {
@@ -99,7 +99,7 @@ reads_next file front entries progress event reads fits =
     (one_more file progress reads.part event reads.reaches fits)
 
 -- a first event that fits, and the rest of a run that ends at a progress
-run_first : (event : SignedEvent) (fault : Option GroupFault) (entry : Option LogEntry) (later : List LogEntry × Ending) (last : Progress)
+pub run_first : (event : SignedEvent) (fault : Option GroupFault) (entry : Option LogEntry) (later : List LogEntry × Ending) (last : Progress)
     → (judged event fault entry later).1 ≡ Reached last
     → (fault ≡ None) × (later.1 ≡ Reached last) × ((judged event fault entry later).0 ≡ option_to_list entry ++ later.0)
 run_first event None entry later last is = (refl, is, cons_option_list entry later.0)
@@ -146,19 +146,19 @@ ending (End None xid content) = event_of (PrepareEvent 0 xid) ∷ []
 ending (End (Some timestamp) xid content) = event_of (PrepareEvent 1 xid) ∷ []
 ending (Local rows) = event_of CommitText ∷ []
 
-prepare_ends : (file : ℕ) (time : Option ℕ) (xid : Xid) (content : Content) (one_phase : ℕ) → misfit (End time xid content) (PrepareEvent one_phase xid) ≡ None
+pub prepare_ends : (file : ℕ) (time : Option ℕ) (xid : Xid) (content : Content) (one_phase : ℕ) → misfit (End time xid content) (PrepareEvent one_phase xid) ≡ None
     → (outcome file (End time xid content) (event_of (PrepareEvent one_phase xid) ∷ [])).1 ≡ Reached Out
 prepare_ends file time xid content one_phase fits =
     ap (λ (f : Option GroupFault). (judged (event_of (PrepareEvent one_phase xid)) f (entry_given file (End time xid content) (event_of (PrepareEvent one_phase xid))) ([], Reached Out)).1) fits
 
-group_ends : (file : ℕ) (time : Option ℕ) (xid : Xid) (content : Content) (last : SignedEvent)
+pub group_ends : (file : ℕ) (time : Option ℕ) (xid : Xid) (content : Content) (last : SignedEvent)
     → (outcome file (End time xid content) (last ∷ [])).1 ≡ Reached Out → (outcome file (Xa time xid content) (event_of (XaEndText xid) ∷ last ∷ [])).1 ≡ Reached Out
 group_ends file time xid content last is =
     ap (λ (o : List LogEntry × Ending). o.1)
     (outcome_led file (Xa time xid content) (End time xid content) (event_of (XaEndText xid)) (last ∷ []) None (end_leads time xid content 0))
     ∙ is
 
-ends : (file : ℕ) (progress : Progress) → (outcome file progress (ending progress)).1 ≡ Reached Out
+pub ends : (file : ℕ) (progress : Progress) → (outcome file progress (ending progress)).1 ≡ Reached Out
 ends file Out = refl
 ends file (Wait timestamp) = refl
 ends file (Xa None xid content) = group_ends file None xid content (event_of (PrepareEvent 0 xid)) (prepare_ends file None xid content 0 (named xid None))
@@ -168,7 +168,7 @@ ends file (End None xid content) = prepare_ends file None xid content 0 (named x
 ends file (End (Some timestamp) xid content) = prepare_ends file (Some timestamp) xid content 1 (named xid None)
 ends file (Local rows) = refl
 
-read_fits : (file : ℕ) (events : List SignedEvent) (entries : List LogEntry) (progress : Progress) → ReadsTo file events entries progress → Fits file events
+pub read_fits : (file : ℕ) (events : List SignedEvent) (entries : List LogEntry) (progress : Progress) → ReadsTo file events entries progress → Fits file events
 read_fits file events entries progress reads = whole (reads_on file (ending progress) events entries progress Out reads (ends file progress))
   where
     whole : ReadsTo file (events ++ ending progress) (entries ++ (outcome file progress (ending progress)).0) Out → Fits file events
@@ -180,12 +180,12 @@ read_fits file events entries progress reads = whole (reads_on file (ending prog
     }
 
 -- the front of a run that ends at a progress ends at one
-front_reached : (file : ℕ) (o : List LogEntry × Ending) (more : List SignedEvent) (last : Progress) → (joined file o more).1 ≡ Reached last
+pub front_reached : (file : ℕ) (o : List LogEntry × Ending) (more : List SignedEvent) (last : Progress) → (joined file o more).1 ≡ Reached last
     → (progress : Progress) × (o.1 ≡ Reached progress)
 front_reached file (entries, Reached progress) more last is = (progress, refl)
 front_reached file (entries, Misplaced event fault) more last is = absurd (let e = is in cc)
 
-fitting_read : (file : ℕ) (events : List SignedEvent) → Fits file events → (entries : List LogEntry) × (progress : Progress) × ReadsTo file events entries progress
+pub fitting_read : (file : ℕ) (events : List SignedEvent) → Fits file events → (entries : List LogEntry) × (progress : Progress) × ReadsTo file events entries progress
 fitting_read file events fits =
     let run = reads_run file (events ++ fits.more) fits.entries fits.reads in
     let front = front_reached file (outcome file Out events) fits.more Out
@@ -195,7 +195,7 @@ fitting_read file events fits =
 pub fitting_is_read : FittingIsRead
 fitting_is_read = (fitting_read, read_fits)
 
-front_fits : (file : ℕ) (front more : List SignedEvent) → Fits file (front ++ more) → Fits file front
+pub front_fits : (file : ℕ) (front more : List SignedEvent) → Fits file (front ++ more) → Fits file front
 front_fits file front more fits = record {
   more = more ++ fits.more;
   entries = fits.entries;
@@ -221,7 +221,7 @@ run_ceases file front behind entries progress misplaced fault reads told =
     ∙ ap (λ (list : List LogEntry). (list, Misplaced misplaced fault)) (append-nil entries)
 
 -- no run both ends at a progress and ceases
-never_both : (o : List LogEntry × Ending) (entries others : List LogEntry) (progress : Progress) (event : SignedEvent) (fault : GroupFault)
+pub never_both : (o : List LogEntry × Ending) (entries others : List LogEntry) (progress : Progress) (event : SignedEvent) (fault : GroupFault)
     → o ≡ (entries, Reached progress) → o ≡ (others, Misplaced event fault) → ⊥
 never_both o entries others progress event fault first second =
     let same : Reached progress ≡ Misplaced event fault = ap (λ (p : List LogEntry × Ending). p.1) (sym first ∙ second) in cc

@@ -26,7 +26,7 @@ pub cons_option_list : {X : Type 0} (first : Option X) (xs : List X) → cons_op
 cons_option_list None xs = refl
 cons_option_list (Some x) xs = refl
 
-judged_joined : (file : ℕ) (event : SignedEvent) (fault : Option GroupFault) (entry : Option LogEntry) (later : List LogEntry × Ending) (more : List SignedEvent)
+pub judged_joined : (file : ℕ) (event : SignedEvent) (fault : Option GroupFault) (entry : Option LogEntry) (later : List LogEntry × Ending) (more : List SignedEvent)
     → judged event fault entry (joined file later more) ≡ joined file (judged event fault entry later) more
 judged_joined file event (Some fault) entry (entries, ending) more = refl
 judged_joined file event None entry (entries, Reached progress) more =
@@ -48,7 +48,7 @@ pub record Leads (progress : Progress) (seconds : ℕ) (sign : Sign) (next : Pro
   pub to : advance progress sign ≡ next
   pub gives : made progress seconds sign ≡ kind
 
-judged_same : (event : SignedEvent) (fault : Option GroupFault) (entry other : Option LogEntry) (later last : List LogEntry × Ending)
+pub judged_same : (event : SignedEvent) (fault : Option GroupFault) (entry other : Option LogEntry) (later last : List LogEntry × Ending)
     → fault ≡ None → entry ≡ other → later ≡ last → judged event fault entry later ≡ (cons_option other last.0, last.1)
 judged_same event fault entry other later last fits gives to =
     ap (λ (f : Option GroupFault). judged event f entry later) fits

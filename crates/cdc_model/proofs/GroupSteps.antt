@@ -18,21 +18,21 @@ use Rattle.cdc_model.specs.Advance.{advance, made, entry_at, entry_given, with_r
 -- ---- one element more
 
 -- an event that fits where a branch is named names that branch
-named_here : (same : Bool) (fault : Option GroupFault) → (if same then fault else Some XidDiffers) ≡ None → (same ≡ true) × (fault ≡ None)
+pub named_here : (same : Bool) (fault : Option GroupFault) → (if same then fault else Some XidDiffers) ≡ None → (same ≡ true) × (fault ≡ None)
 named_here true fault e = (refl, e)
 named_here false fault e = absurd (let h = e in cc)
 
-all_more : (test : Sign → Bool) (events : List SignedEvent) (event : SignedEvent)
+pub all_more : (test : Sign → Bool) (events : List SignedEvent) (event : SignedEvent)
     → AllSigns test events → test event.sign ≡ true
     → AllSigns test (events ++ event ∷ [])
 all_more test [] event all last = (last, tt)
 all_more test (first ∷ events) event (here, all) last = (here, all_more test events event all last)
 
 -- what is said of a sign is so of the event that has it
-test_of : (test : Sign → Bool) (event : SignedEvent) (sign : Sign) → Says event sign → test sign ≡ true → test event.sign ≡ true
+pub test_of : (test : Sign → Bool) (event : SignedEvent) (sign : Sign) → Says event sign → test sign ≡ true → test event.sign ≡ true
 test_of test event sign says h = ap test says ∙ h
 
-rows_more : (rows : List Row) (events : List SignedEvent) (event : SignedEvent) (sign : Sign) → rows ≡ rows_in events → Says event sign
+pub rows_more : (rows : List Row) (events : List SignedEvent) (event : SignedEvent) (sign : Sign) → rows ≡ rows_in events → Says event sign
     → rows ++ option_to_list (row_of sign) ≡ rows_in (events ++ event ∷ [])
 rows_more rows events event sign are says =
     ap (λ (list : List Row). list ++ option_to_list (row_of sign)) are
@@ -44,13 +44,13 @@ rows_more rows events event sign are says =
     listed None = refl
     listed (Some row) = refl
 
-no_row_more : (rows : List Row) (events : List SignedEvent) (event : SignedEvent) (sign : Sign) → rows ≡ rows_in events → Says event sign
+pub no_row_more : (rows : List Row) (events : List SignedEvent) (event : SignedEvent) (sign : Sign) → rows ≡ rows_in events → Says event sign
     → row_of sign ≡ None → rows ≡ rows_in (events ++ event ∷ [])
 no_row_more rows events event sign are says none =
     sym (append-nil rows) ∙ ap (λ (row : Option Row). rows ++ option_to_list row) (sym none) ∙ rows_more rows events event sign are says
 
 -- a list in two parts, the second of which grows
-part_more : (events before after : List SignedEvent) (event : SignedEvent) → events ≡ before ++ after → events ++ event ∷ [] ≡ before ++ (after ++ event ∷ [])
+pub part_more : (events before after : List SignedEvent) (event : SignedEvent) → events ≡ before ++ after → events ++ event ∷ [] ≡ before ++ (after ++ event ∷ [])
 part_more events before after event is = ap (λ (list : List SignedEvent). list ++ event ∷ []) is ∙ append_assoc before after (event ∷ [])
 
 -- ---- what one event more comes to
@@ -63,10 +63,10 @@ Goes file part event next entry = (Reaches (part ++ event ∷ []) next × (entry
 abbrev GoesBy : ℕ → List SignedEvent → SignedEvent → Progress → Sign → Type 0
 GoesBy file part event progress sign = Goes file part event (advance progress sign) (option_map (entry_at file event) (made progress event.seconds sign))
 
-passed_over : (file : ℕ) (event : SignedEvent) (sign : Sign) → Says event sign → is_passed sign ≡ true → IsNoEntry (event ∷ [])
+pub passed_over : (file : ℕ) (event : SignedEvent) (sign : Sign) → Says event sign → is_passed sign ≡ true → IsNoEntry (event ∷ [])
 passed_over file event sign says h = inl (event, refl, test_of is_passed event sign says h)
 
-outside_goes : (file : ℕ) (event : SignedEvent) (sign : Sign) → Says event sign → misfit Out sign ≡ None → GoesBy file [] event Out sign
+pub outside_goes : (file : ℕ) (event : SignedEvent) (sign : Sign) → Says event sign → misfit Out sign ≡ None → GoesBy file [] event Out sign
 outside_goes file event Gtid says h = inr (refl, passed_over file event Gtid says refl)
 outside_goes file event Quiet says h = inr (refl, passed_over file event Quiet says refl)
 outside_goes file event (Ddl row) says h = inr (refl, passed_over file event (Ddl row) says refl)
@@ -82,7 +82,7 @@ outside_goes file event (XaStartText xid) says h = inl (([], event ∷ [], refl,
 outside_goes file event (XaRollbackText xid) says h = inr (refl, ([], event, refl, (refl, says), record { at = refl; end = refl; checksum = refl }))
 outside_goes file event _ says h = absurd (let e = h in cc)
 
-waiting_goes : (file timestamp : ℕ) (part : List SignedEvent) (event : SignedEvent) (sign : Sign) → IsStamp timestamp part → Says event sign
+pub waiting_goes : (file timestamp : ℕ) (part : List SignedEvent) (event : SignedEvent) (sign : Sign) → IsStamp timestamp part → Says event sign
     → misfit (Wait timestamp) sign ≡ None → GoesBy file part event (Wait timestamp) sign
 waiting_goes file timestamp part event Gtid (stamp, gtids, is, first, all) says h =
     inl ((stamp, gtids ++ event ∷ [], ap (λ (list : List SignedEvent). list ++ event ∷ []) is, first, all_more is_gtid gtids event all (test_of is_gtid event Gtid says refl)), refl)
@@ -94,18 +94,18 @@ waiting_goes file timestamp part event _ stamp says h = absurd (let e = h in cc)
 -- ---- inside an XA group
 
 -- unmarked events without a row among them are silent
-silent_of : (sign : Sign) → is_unmarked sign ≡ true → row_of sign ≡ None → is_silent sign ≡ true
+pub silent_of : (sign : Sign) → is_unmarked sign ≡ true → row_of sign ≡ None → is_silent sign ≡ true
 silent_of Gtid h e = refl
 silent_of Quiet h e = refl
 silent_of SavepointText h e = refl
 silent_of (RowEvent row) h e = absurd (let f = e in cc)
 silent_of _ h e = absurd (no_test h)
 
-no_rows_first : (first : Option Row) (rows : List Row) → [] ≡ cons_option first rows → (first ≡ None) × ([] ≡ rows)
+pub no_rows_first : (first : Option Row) (rows : List Row) → [] ≡ cons_option first rows → (first ≡ None) × ([] ≡ rows)
 no_rows_first None rows e = (refl, e)
 no_rows_first (Some row) rows e = absurd (let f = e in cc)
 
-all_silent : (events : List SignedEvent) → AllSigns is_unmarked events → [] ≡ rows_in events
+pub all_silent : (events : List SignedEvent) → AllSigns is_unmarked events → [] ≡ rows_in events
     → AllSigns is_silent events
 all_silent [] all none = tt
 all_silent (event ∷ events) (first, all) none =
@@ -113,7 +113,7 @@ all_silent (event ∷ events) (first, all) none =
     (silent_of event.sign first parts.0, all_silent events all parts.1)
 
 -- a group that goes on, before its end
-xa_goes_on : (time : Option ℕ) (xid : Xid) (content : Content) (after : Content) (part : List SignedEvent) (event : SignedEvent) → Reaches part (Xa time xid content)
+pub xa_goes_on : (time : Option ℕ) (xid : Xid) (content : Content) (after : Content) (part : List SignedEvent) (event : SignedEvent) → Reaches part (Xa time xid content)
     → ((body : List SignedEvent) → IsGroupBody content body → IsGroupBody after (body ++ event ∷ [])) → Reaches (part ++ event ∷ []) (Xa time xid after)
 xa_goes_on time xid content after part event (stamp, group, is, timed, (start, body, begins, first, holds)) more = (
   stamp,
@@ -123,7 +123,7 @@ xa_goes_on time xid content after part event (stamp, group, is, timed, (start, b
   (start, body ++ event ∷ [], ap (λ (list : List SignedEvent). list ++ event ∷ []) begins, first, more body holds),
 )
 
-silent_more : (content : Content) (body : List SignedEvent) (event : SignedEvent) (sign : Sign) → Says event sign → is_silent sign ≡ true → is_unmarked sign ≡ true
+pub silent_more : (content : Content) (body : List SignedEvent) (event : SignedEvent) (sign : Sign) → Says event sign → is_silent sign ≡ true → is_unmarked sign ≡ true
     → row_of sign ≡ None → IsGroupBody content body → IsGroupBody content (body ++ event ∷ [])
 silent_more (TableRows rows) body event sign says silent unmarked none (all, are) =
     (all_more is_unmarked body event all (test_of is_unmarked event sign says unmarked), no_row_more rows body event sign are says none)
@@ -137,26 +137,26 @@ silent_more (OneStatement row) body event sign says silent unmarked none (before
   all_more is_silent after event later (test_of is_silent event sign says silent),
 )
 
-row_more : (content : Content) (row : Row) (body : List SignedEvent) (event : SignedEvent) → Says event (RowEvent row)
+pub row_more : (content : Content) (row : Row) (body : List SignedEvent) (event : SignedEvent) → Says event (RowEvent row)
     → misfit (Xa None (xid_of [] [] 0) content) (RowEvent row) ≡ None → IsGroupBody content body → IsGroupBody (with_row content row) (body ++ event ∷ [])
 row_more (TableRows rows) row body event says h (all, are) =
     (all_more is_unmarked body event all (test_of is_unmarked event (RowEvent row) says refl), rows_more rows body event (RowEvent row) are says)
 row_more (OneStatement statement) row body event says h holds = absurd (let e = h in cc)
 
-statement_more : (content : Content) (row : Row) (body : List SignedEvent) (event : SignedEvent) → Says event (Ddl row)
+pub statement_more : (content : Content) (row : Row) (body : List SignedEvent) (event : SignedEvent) → Says event (Ddl row)
     → misfit (Xa None (xid_of [] [] 0) content) (Ddl row) ≡ None → IsGroupBody content body → IsGroupBody (OneStatement row) (body ++ event ∷ [])
 statement_more (TableRows []) row body event says h (all, are) = (body, [], event, refl, says, all_silent body all are, tt)
 statement_more (TableRows (first ∷ rows)) row body event says h holds = absurd (let e = h in cc)
 statement_more (OneStatement statement) row body event says h holds = absurd (let e = h in cc)
 
 -- the end of a group names its branch
-group_ends : (file : ℕ) (time : Option ℕ) (xid other : Xid) (content : Content) (part : List SignedEvent) (event : SignedEvent) → Reaches part (Xa time xid content)
+pub group_ends : (file : ℕ) (time : Option ℕ) (xid other : Xid) (content : Content) (part : List SignedEvent) (event : SignedEvent) → Reaches part (Xa time xid content)
     → Says event (XaEndText other) → unless_same xid other None ≡ None → Reaches (part ++ event ∷ []) (End time xid content)
 group_ends file time xid other content part event (stamp, group, is, timed, begun) says h =
     let same : xid ≡ other = same_xid_is xid other (named_here (same_xid xid other) None h).0 in
     (stamp, group ++ event ∷ [], part_more part stamp group event is, timed, (group, [], event, refl, begun, says ∙ ap XaEndText (sym same), tt))
 
-xa_goes : (file : ℕ) (time : Option ℕ) (xid : Xid) (content : Content) (part : List SignedEvent) (event : SignedEvent) (sign : Sign) → Reaches part (Xa time xid content)
+pub xa_goes : (file : ℕ) (time : Option ℕ) (xid : Xid) (content : Content) (part : List SignedEvent) (event : SignedEvent) (sign : Sign) → Reaches part (Xa time xid content)
     → Says event sign → misfit (Xa time xid content) sign ≡ None → GoesBy file part event (Xa time xid content) sign
 xa_goes file time xid content part event Gtid reaches says h =
     inl (xa_goes_on time xid content content part event reaches (λ body. silent_more content body event Gtid says refl refl refl), refl)
@@ -173,7 +173,7 @@ xa_goes file time xid content part event _ reaches says h = absurd (let e = h in
 
 -- ---- behind the end of an XA group
 
-ended_goes_on : (time : Option ℕ) (xid : Xid) (content : Content) (part : List SignedEvent) (event : SignedEvent) (sign : Sign) → Reaches part (End time xid content)
+pub ended_goes_on : (time : Option ℕ) (xid : Xid) (content : Content) (part : List SignedEvent) (event : SignedEvent) (sign : Sign) → Reaches part (End time xid content)
     → Says event sign → is_quiet sign ≡ true → Reaches (part ++ event ∷ []) (End time xid content)
 ended_goes_on time xid content part event sign (stamp, group, is, timed, (begun, quiets, end, ends, begins, last, all)) says h = (
   stamp,
@@ -183,17 +183,17 @@ ended_goes_on time xid content part event sign (stamp, group, is, timed, (begun,
   (begun, quiets ++ event ∷ [], end, part_more group begun (end ∷ quiets) event ends, begins, last, all_more is_quiet quiets event all (test_of is_quiet event sign says h)),
 )
 
-zero_phase : (one_phase : ℕ) → misfit_phase None one_phase ≡ None → one_phase ≡ 0
+pub zero_phase : (one_phase : ℕ) → misfit_phase None one_phase ≡ None → one_phase ≡ 0
 zero_phase one_phase h = by_test (one_phase == 0) refl h
   where
     by_test : (test : Bool) → (one_phase == 0) ≡ test → (if test then None else Some NoTimestamp) ≡ None → one_phase ≡ 0
     by_test true is e = grind (arith, nat_tests, is)
     by_test false is e = absurd (let f = e in cc)
 
-other_phase : (timestamp one_phase : ℕ) → misfit_phase (Some timestamp) one_phase ≡ None → one_phase ≢ 0
+pub other_phase : (timestamp one_phase : ℕ) → misfit_phase (Some timestamp) one_phase ≡ None → one_phase ≢ 0
 other_phase timestamp one_phase h zero = absurd (let e : misfit_phase (Some timestamp) 0 ≡ None = subst (λ (n : ℕ). misfit_phase (Some timestamp) n ≡ None) zero h in cc)
 
-prepare_goes : (file : ℕ) (time : Option ℕ) (xid other : Xid) (content : Content) (part : List SignedEvent) (event : SignedEvent) (one_phase : ℕ)
+pub prepare_goes : (file : ℕ) (time : Option ℕ) (xid other : Xid) (content : Content) (part : List SignedEvent) (event : SignedEvent) (one_phase : ℕ)
     → Reaches part (End time xid content) → Says event (PrepareEvent one_phase other) → unless_same xid other (misfit_phase time one_phase) ≡ None
     → GoesBy file part event (End time xid content) (PrepareEvent one_phase other)
 prepare_goes file None xid other content part event one_phase (stamp, group, is, timed, ended) says h =
@@ -216,7 +216,7 @@ prepare_goes file (Some timestamp) xid other content part event one_phase (stamp
       ),
     )
 
-ended_goes : (file : ℕ) (time : Option ℕ) (xid : Xid) (content : Content) (part : List SignedEvent) (event : SignedEvent) (sign : Sign) → Reaches part (End time xid content)
+pub ended_goes : (file : ℕ) (time : Option ℕ) (xid : Xid) (content : Content) (part : List SignedEvent) (event : SignedEvent) (sign : Sign) → Reaches part (End time xid content)
     → Says event sign → misfit (End time xid content) sign ≡ None → GoesBy file part event (End time xid content) sign
 ended_goes file time xid content part event Gtid reaches says h = inl (ended_goes_on time xid content part event Gtid reaches says refl, refl)
 ended_goes file time xid content part event Quiet reaches says h = inl (ended_goes_on time xid content part event Quiet reaches says refl, refl)
@@ -227,7 +227,7 @@ ended_goes file time xid content part event _ reaches says h = absurd (let e = h
 
 -- ---- inside a local transaction
 
-local_goes_on : (rows more : List Row) (part : List SignedEvent) (event : SignedEvent) (sign : Sign) → IsBegunLocal rows part → Says event sign → is_inner sign ≡ true
+pub local_goes_on : (rows more : List Row) (part : List SignedEvent) (event : SignedEvent) (sign : Sign) → IsBegunLocal rows part → Says event sign → is_inner sign ≡ true
     → more ≡ rows ++ option_to_list (row_of sign) → IsBegunLocal more (part ++ event ∷ [])
 local_goes_on rows more part event sign (begin, body, is, first, all, are) says h grown = (
   begin,
@@ -238,7 +238,7 @@ local_goes_on rows more part event sign (begin, body, is, first, all, are) says 
   grown ∙ rows_more rows body event sign are says,
 )
 
-local_goes : (file : ℕ) (rows : List Row) (part : List SignedEvent) (event : SignedEvent) (sign : Sign) → IsBegunLocal rows part
+pub local_goes : (file : ℕ) (rows : List Row) (part : List SignedEvent) (event : SignedEvent) (sign : Sign) → IsBegunLocal rows part
     → Says event sign → misfit (Local rows) sign ≡ None → GoesBy file part event (Local rows) sign
 local_goes file rows part event Gtid begun says h = inl (local_goes_on rows rows part event Gtid begun says refl (sym (append-nil rows)), refl)
 local_goes file rows part event Quiet begun says h = inl (local_goes_on rows rows part event Quiet begun says refl (sym (append-nil rows)), refl)

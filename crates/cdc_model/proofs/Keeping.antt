@@ -52,7 +52,7 @@ find_kept from xid (o ∷ opened) = by (same_xid xid o.xid) (find_kept from xid 
     by true later = refl
     by false later = later
 
-without_kept : (from : ℕ) (xid : Xid) (opened : List OpenBranch) → without xid (map (forget from) opened) ≡ map (forget from) (without xid opened)
+pub without_kept : (from : ℕ) (xid : Xid) (opened : List OpenBranch) → without xid (map (forget from) opened) ≡ map (forget from) (without xid opened)
 without_kept from xid [] = refl
 without_kept from xid (o ∷ opened) = by (same_xid xid o.xid) (without_kept from xid opened)
   where
@@ -62,7 +62,7 @@ without_kept from xid (o ∷ opened) = by (same_xid xid o.xid) (without_kept fro
     by true later = later
     by false later = ap (λ (list : List OpenBranch). forget from o ∷ list) later
 
-enter_kept : (from : ℕ) (branch : OpenBranch) (opened : List OpenBranch) → enter (forget from branch) (map (forget from) opened) ≡ map (forget from) (enter branch opened)
+pub enter_kept : (from : ℕ) (branch : OpenBranch) (opened : List OpenBranch) → enter (forget from branch) (map (forget from) opened) ≡ map (forget from) (enter branch opened)
 enter_kept from branch [] = refl
 enter_kept from branch (o ∷ opened) = by (is_lt (xid_order branch.xid o.xid)) (enter_kept from branch opened)
   where
@@ -72,7 +72,7 @@ enter_kept from branch (o ∷ opened) = by (is_lt (xid_order branch.xid o.xid)) 
     by true later = refl
     by false later = ap (λ (list : List OpenBranch). forget from o ∷ list) later
 
-opened_kept : (from : ℕ) (kind : EntryKind) (s : Start) → from ≤ s.entry → opened_by kind (kept from s) ≡ map (forget from) (opened_by kind s)
+pub opened_kept : (from : ℕ) (kind : EntryKind) (s : Start) → from ≤ s.entry → opened_by kind (kept from s) ≡ map (forget from) (opened_by kind s)
 opened_kept from (Prepare xid rows) s h =
     let branch : OpenBranch = branch_by xid s.mark s.entry rows in
     ap (enter branch) (without_kept from xid s.opened)
@@ -100,7 +100,7 @@ left_kept from s (entry ∷ later) h =
 
 -- ---- faults and marks
 
-fault_kept : (from : ℕ) (kind : EntryKind) (s : Start) → entry_fault kind (kept from s) ≡ entry_fault kind s
+pub fault_kept : (from : ℕ) (kind : EntryKind) (s : Start) → entry_fault kind (kept from s) ≡ entry_fault kind s
 fault_kept from (Prepare xid rows) s =
     ap (λ (o : Option OpenBranch). unless_open xid o None) (find_kept from xid s.opened) ∙ by (find_open xid s.opened)
   where
@@ -142,7 +142,7 @@ sort_fault_kept from s (entry ∷ entries) h =
     ∙ ap (fault_or entry.at (entry_fault entry.kind s))
     (ap (λ (t : Start). sort_fault t entries) (next_kept from entry.kind s h) ∙ sort_fault_kept from (next entry.kind s) entries (omega (arith, h)))
 
-least_kept : (from most : ℕ) (opened : List OpenBranch) → least most (map (λ o. o.floor) (map (forget from) opened)) ≡ least most (map (λ o. o.floor) opened)
+pub least_kept : (from most : ℕ) (opened : List OpenBranch) → least most (map (λ o. o.floor) (map (forget from) opened)) ≡ least most (map (λ o. o.floor) opened)
 least_kept from most [] = refl
 least_kept from most (o ∷ opened) = least_kept from (min most o.floor) opened
 
@@ -187,7 +187,7 @@ opened_before s (entry ∷ earlier) all =
     (all_weaker (λ (o : OpenBranch). o.entry < here.entry) (λ (o : OpenBranch). o.entry < here.entry + 1) (λ o h. omega (arith, h)) here.opened
     (opened_before s earlier all))
 
-held_before : (from : ℕ) (held : List (Xid × ℕ)) → 1 ≤ from → AllByRecursion (λ (o : OpenBranch). o.entry < from) (map held_open held)
+pub held_before : (from : ℕ) (held : List (Xid × ℕ)) → 1 ≤ from → AllByRecursion (λ (o : OpenBranch). o.entry < from) (map held_open held)
 held_before from [] h = tt
 held_before from (first ∷ held) h = (h, held_before from held h)
 
@@ -196,11 +196,11 @@ start_before from h = held_before from.entry from.held h
 
 -- ---- a restart point's start
 
-held_again : (held : List (Xid × ℕ)) → map held_of (map held_open held) ≡ held
+pub held_again : (held : List (Xid × ℕ)) → map held_of (map held_open held) ≡ held
 held_again [] = refl
 held_again (first ∷ held) = ap (λ (list : List (Xid × ℕ)). first ∷ list) (held_again held)
 
-all_forgotten : (from : ℕ) (opened : List OpenBranch) → AllByRecursion (λ (o : OpenBranch). o.entry < from) opened
+pub all_forgotten : (from : ℕ) (opened : List OpenBranch) → AllByRecursion (λ (o : OpenBranch). o.entry < from) opened
     → map held_open (map held_of opened) ≡ map (forget from) opened
 all_forgotten from [] all = refl
 all_forgotten from (o ∷ opened) (here, all) =
@@ -216,7 +216,7 @@ point_is_kept from (entry ∷ earlier) h =
     let here : Start = left_by (start_at from) (entry ∷ earlier) in
     ap (start_by here.entry here.mark) (all_forgotten here.entry here.opened (opened_before (start_at from) (entry ∷ earlier) (start_before from h)))
 
-held_kept : (from : ℕ) (opened : List OpenBranch) → map held_of (map (forget from) opened) ≡ map held_of opened
+pub held_kept : (from : ℕ) (opened : List OpenBranch) → map held_of (map (forget from) opened) ≡ map held_of opened
 held_kept from [] = refl
 held_kept from (o ∷ opened) = ap (λ (list : List (Xid × ℕ)). held_of o ∷ list) (held_kept from opened)
 

@@ -40,18 +40,18 @@ below_member key (first ∷ keys) other (below, all) within =
 
 -- ---- the order is kept
 
-below_placed : (order : Ordering) (low key first : Key) (rest later : List Key) → key_order low key ≡ Less → IsBelowAll low (first ∷ rest)
+pub below_placed : (order : Ordering) (low key first : Key) (rest later : List Key) → key_order low key ≡ Less → IsBelowAll low (first ∷ rest)
     → IsBelowAll low later → IsBelowAll low (placed_key order key first rest later)
 below_placed Less low key first rest later is (below, all) behind = (is, (below, all))
 below_placed Equal low key first rest later is (below, all) behind = (below, all)
 below_placed Greater low key first rest later is (below, all) behind = (below, behind)
 
-below_put : (low key : Key) (keys : List Key) → key_order low key ≡ Less → IsBelowAll low keys → IsBelowAll low (put key keys)
+pub below_put : (low key : Key) (keys : List Key) → key_order low key ≡ Less → IsBelowAll low keys → IsBelowAll low (put key keys)
 below_put low key [] is all = (is, tt)
 below_put low key (first ∷ rest) is (below, all) =
     below_placed (key_order key first) low key first rest (put key rest) is (below, all) (below_put low key rest is all)
 
-sorted_placed : (order : Ordering) (key first : Key) (rest : List Key) → key_order key first ≡ order → IsBelowAll first rest
+pub sorted_placed : (order : Ordering) (key first : Key) (rest : List Key) → key_order key first ≡ order → IsBelowAll first rest
     → IsStrictlySortedBy key_order rest → IsStrictlySortedBy key_order (put key rest) → IsStrictlySortedBy key_order (placed_key order key first rest (put key rest))
 unfolding IsStrictlySortedBy
 sorted_placed Less key first rest is all sorted later = ((is, below_later key first rest is all), (all, sorted))
@@ -66,7 +66,7 @@ sorted_put key (first ∷ rest) (all, sorted) =
 
 -- ---- the members: the key and those of before
 
-in_placed : (order : Ordering) (key first : Key) (rest later : List Key) (other : Key)
+pub in_placed : (order : Ordering) (key first : Key) (rest later : List Key) (other : Key)
     → (Contains later other → (key ≡ other) ⊎ Contains rest other)
     → Contains (placed_key order key first rest later) other → (key ≡ other) ⊎ Contains (first ∷ rest) other
 in_placed Less key first rest later other behind within = contains_cases key (first ∷ rest) other within
@@ -83,7 +83,7 @@ in_put key [] other within = contains_cases key [] other within
 in_put key (first ∷ rest) other within =
     in_placed (key_order key first) key first rest (put key rest) other (in_put key rest other) within
 
-placed_itself : (order : Ordering) (key first : Key) (rest later : List Key) → key_order key first ≡ order
+pub placed_itself : (order : Ordering) (key first : Key) (rest later : List Key) → key_order key first ≡ order
     → Contains later key → Contains (placed_key order key first rest later) key
 placed_itself Less key first rest later is behind = contains_first key (first ∷ rest)
 placed_itself Equal key first rest later is behind =
@@ -94,7 +94,7 @@ pub put_itself : (key : Key) (keys : List Key) → Contains (put key keys) key
 put_itself key [] = contains_first key []
 put_itself key (first ∷ rest) = placed_itself (key_order key first) key first rest (put key rest) refl (put_itself key rest)
 
-placed_other : (order : Ordering) (key first : Key) (rest later : List Key) (other : Key) → (Contains rest other → Contains later other)
+pub placed_other : (order : Ordering) (key first : Key) (rest later : List Key) (other : Key) → (Contains rest other → Contains later other)
     → Contains (first ∷ rest) other → Contains (placed_key order key first rest later) other
 placed_other Less key first rest later other behind within = contains_later key (first ∷ rest) other within
 placed_other Equal key first rest later other behind within = within

@@ -2,19 +2,19 @@
 use Rattle.std.proofs.Common.{ℕ, List, [], ◌∷◌, ◌++◌, append_assoc, append-nil, ap, sym, refl, subst, ◌∙◌}
 use Rattle.cdc_model.specs.Log.{Continues, IsLogPrefix, LogPrefixIsAnOrder, GrownLogContinues}
 
-continues_itself : (file : List ℕ) → Continues file file
+pub continues_itself : (file : List ℕ) → Continues file file
 continues_itself file = ([], sym (append-nil file))
 
-continues_on : (first second third : List ℕ) → Continues first second → Continues second third → Continues first third
+pub continues_on : (first second third : List ℕ) → Continues first second → Continues second third → Continues first third
 continues_on first second third (more, is) (further, then) =
     (more ++ further, then ∙ ap (λ (file : List ℕ). file ++ further) is ∙ append_assoc first more further)
 
-prefix_itself : (log : List (List ℕ)) → IsLogPrefix log log
+pub prefix_itself : (log : List (List ℕ)) → IsLogPrefix log log
 prefix_itself [] = tt
 prefix_itself (file ∷ []) = continues_itself file
 prefix_itself (file ∷ next ∷ files) = (refl, prefix_itself (next ∷ files))
 
-prefix_on : (first second third : List (List ℕ)) → IsLogPrefix first second → IsLogPrefix second third → IsLogPrefix first third
+pub prefix_on : (first second third : List (List ℕ)) → IsLogPrefix first second → IsLogPrefix second third → IsLogPrefix first third
 prefix_on [] second third a b = tt
 prefix_on (file ∷ []) [] third a b = absurd a
 prefix_on (file ∷ []) (other ∷ []) [] a b = absurd b

@@ -59,11 +59,11 @@ module _ (one : FilesHaveOneReading) where
       ∙ sym (run_of_entries file (map signed events2) ended2 others other second))
 
 -- no fault of the bytes is no fault of the file
-no_file_fault : (file : ℕ) (ended : Option (ℕ × FileFault)) → file_fault file ended ≢ None → ended ≢ None
+pub no_file_fault : (file : ℕ) (ended : Option (ℕ × FileFault)) → file_fault file ended ≢ None → ended ≢ None
 no_file_fault file ended not none = not (ap (file_fault file) none)
 
 -- a run, and the same over events behind it
-lengthened : (file : ℕ) (o : List LogEntry × Ending) (new : List SignedEvent) (ended later : Option (ℕ × FileFault)) → (ended ≢ None → (new ≡ []) × (later ≡ ended))
+pub lengthened : (file : ℕ) (o : List LogEntry × Ending) (new : List SignedEvent) (ended later : Option (ℕ × FileFault)) → (ended ≢ None → (new ≡ []) × (later ≡ ended))
     → LengthensLog (closed file ended o).0 (closed file later (joined file o new)).0 (closed file ended o).1 (closed file later (joined file o new)).1
 lengthened file (entries, Misplaced event fault) new ended later stays = record { new = []; kept = sym (append-nil entries); stays = λ _. (refl, refl) }
 lengthened file (entries, Reached progress) new ended later stays = at_end (outcome file progress new) refl
@@ -89,7 +89,7 @@ lengthened file (entries, Reached progress) new ended later stays = at_end (outc
     }
 
 -- as far as the lists and faults are these
-lengthens_as : (entries longer others further : List LogEntry) (fault later other last : Option (Place × NodeFault))
+pub lengthens_as : (entries longer others further : List LogEntry) (fault later other last : Option (Place × NodeFault))
     → listed entries fault ≡ listed others other → listed longer later ≡ listed further last → LengthensLog others further other last → LengthensLog entries longer fault later
 lengthens_as entries longer others further fault later other last first second h =
     let a = same_entries entries others fault other first in
@@ -119,18 +119,18 @@ module _ (grown : GrownFileContinues) where
 -- ---- a log
 
 -- the entries of the first file: its own, and those of the rest where it has no fault
-data FirstFile (file : ℕ) (bytes : List ℕ) (files : List (List ℕ)) (entries : List LogEntry) (fault : Option (Place × NodeFault)) : Type 0 where
+pub data FirstFile (file : ℕ) (bytes : List ℕ) (files : List (List ℕ)) (entries : List LogEntry) (fault : Option (Place × NodeFault)) : Type 0 where
   ends_here : fault ≢ None → AreFileEntries file bytes entries fault → FirstFile file bytes files entries fault
   goes_on : (own later : List LogEntry) → entries ≡ own ++ later → AreFileEntries file bytes own None → AreEntriesFrom (file + 1) files later fault
       → FirstFile file bytes files entries fault
 
-first_file : (file : ℕ) (bytes : List ℕ) (files : List (List ℕ)) (entries : List LogEntry) (fault : Option (Place × NodeFault))
+pub first_file : (file : ℕ) (bytes : List ℕ) (files : List (List ℕ)) (entries : List LogEntry) (fault : Option (Place × NodeFault))
     → AreEntriesFrom file (bytes ∷ files) entries fault → FirstFile file bytes files entries fault
 first_file file bytes files entries fault (inl (not, are)) = ends_here not are
 first_file file bytes files entries fault (inr (own, later, is, are, rest)) = goes_on own later is are rest
 
 -- the first files being one, the rest decides
-lengthens_behind : (own other later further entries longer : List LogEntry) (fault last : Option (Place × NodeFault))
+pub lengthens_behind : (own other later further entries longer : List LogEntry) (fault last : Option (Place × NodeFault))
     → own ≡ other → entries ≡ own ++ later → longer ≡ other ++ further → LengthensLog later further fault last → LengthensLog entries longer fault last
 lengthens_behind own other later further entries longer fault last same first second h = record {
   new = h.new;
@@ -140,11 +140,11 @@ lengthens_behind own other later further entries longer fault last same first se
 }
 
 -- nothing is longer than itself
-lengthens_itself : (entries others : List LogEntry) (fault other : Option (Place × NodeFault)) → entries ≡ others → fault ≡ other → LengthensLog entries others fault other
+pub lengthens_itself : (entries others : List LogEntry) (fault other : Option (Place × NodeFault)) → entries ≡ others → fault ≡ other → LengthensLog entries others fault other
 lengthens_itself entries others fault other same is = record { new = []; kept = sym same ∙ sym (append-nil entries); stays = λ _. (refl, sym is) }
 
 -- a file without a fault, and what comes behind it
-lengthens_nothing : (entries own new further longer : List LogEntry) (fault last : Option (Place × NodeFault))
+pub lengthens_nothing : (entries own new further longer : List LogEntry) (fault last : Option (Place × NodeFault))
     → fault ≡ None → entries ≡ own → longer ≡ (own ++ new) ++ further → LengthensLog entries longer fault last
 lengthens_nothing entries own new further longer fault last none is all = record {
   new = new ++ further;
@@ -232,7 +232,7 @@ abbrev SomeEntries : ℕ → List (List ℕ) → Type 0
 SomeEntries file files = (entries : List LogEntry) × (fault : Option (Place × NodeFault)) × AreEntriesFrom file files entries fault
 
 -- a file's entries, and those of the files behind it where it has no fault
-with_file : (file : ℕ) (bytes : List ℕ) (files : List (List ℕ)) (entries : List LogEntry) (fault : Option (Place × NodeFault))
+pub with_file : (file : ℕ) (bytes : List ℕ) (files : List (List ℕ)) (entries : List LogEntry) (fault : Option (Place × NodeFault))
     → AreFileEntries file bytes entries fault → SomeEntries (file + 1) files → SomeEntries file (bytes ∷ files)
 with_file file bytes files entries (Some fault) found rest = (entries, Some fault, inl ((λ e. cc), found))
 with_file file bytes files entries None found (later, fault, read) = (entries ++ later, fault, inr (entries, later, refl, found, read))

@@ -12,28 +12,28 @@ numbers_count start (entry ∷ earlier) = omega (arith, numbers_count start earl
 
 -- ---- the greatest
 
-greatest_one : (mark : ℕ) → IsGreatest mark (mark ∷ [])
+pub greatest_one : (mark : ℕ) → IsGreatest mark (mark ∷ [])
 greatest_one mark = record {
   above = All-cons (λ other. other ≤ mark) mark [] (le_refl mark) (All-nil (λ other. other ≤ mark));
   reached = contains_first mark [];
 }
 
 -- a number behind the first of some
-contains_second : (mark first stamp : ℕ) (stamps : List ℕ) → Contains (first ∷ stamps) mark → Contains (first ∷ stamp ∷ stamps) mark
+pub contains_second : (mark first stamp : ℕ) (stamps : List ℕ) → Contains (first ∷ stamps) mark → Contains (first ∷ stamp ∷ stamps) mark
 contains_second mark first stamp stamps within =
     elim (contains_cases first stamps mark within) [
       | inl is ↦ subst (λ n. Contains (first ∷ stamp ∷ stamps) n) is (contains_first first (stamp ∷ stamps))
       | inr later ↦ contains_later first (stamp ∷ stamps) mark (contains_later stamp stamps mark later)
     ]
 
-greatest_reached : (mark first stamp : ℕ) (stamps : List ℕ) → Contains (first ∷ stamps) mark → Contains (first ∷ stamp ∷ stamps) (max stamp mark)
+pub greatest_reached : (mark first stamp : ℕ) (stamps : List ℕ) → Contains (first ∷ stamps) mark → Contains (first ∷ stamp ∷ stamps) (max stamp mark)
 greatest_reached mark first stamp stamps within =
     elim (cases_lt stamp mark) [
       | inl below ↦ subst (λ n. Contains (first ∷ stamp ∷ stamps) n) (omega arith) (contains_second mark first stamp stamps within)
       | inr above ↦ subst (λ n. Contains (first ∷ stamp ∷ stamps) n) (omega arith) (contains_later first (stamp ∷ stamps) stamp (contains_first stamp stamps))
     ]
 
-greatest_more : (mark first stamp : ℕ) (stamps : List ℕ) → IsGreatest mark (first ∷ stamps) → IsGreatest (max stamp mark) (first ∷ stamp ∷ stamps)
+pub greatest_more : (mark first stamp : ℕ) (stamps : List ℕ) → IsGreatest mark (first ∷ stamps) → IsGreatest (max stamp mark) (first ∷ stamp ∷ stamps)
 greatest_more mark first stamp stamps greatest =
     let head : first ≤ mark = All-head (λ other. other ≤ mark) first stamps greatest.above in
     let tail : All (λ other. other ≤ max stamp mark) stamps =
@@ -51,14 +51,14 @@ mark_is_greatest start (entry ∷ earlier) =
 
 -- ---- the least
 
-least_one : (mark : ℕ) → IsLeast mark (mark ∷ [])
+pub least_one : (mark : ℕ) → IsLeast mark (mark ∷ [])
 least_one mark = record {
   below = All-cons (λ other. mark ≤ other) mark [] (le_refl mark) (All-nil (λ other. mark ≤ other));
   reached = contains_first mark [];
 }
 
 -- the least of two numbers is one of them
-contains_min : (least a b : ℕ) (numbers : List ℕ) → Contains (min a b ∷ numbers) least → Contains (a ∷ b ∷ numbers) least
+pub contains_min : (least a b : ℕ) (numbers : List ℕ) → Contains (min a b ∷ numbers) least → Contains (a ∷ b ∷ numbers) least
 contains_min least a b numbers within =
     elim (contains_cases (min a b) numbers least within) [
       | inl is ↦
@@ -69,7 +69,7 @@ contains_min least a b numbers within =
       | inr later ↦ contains_later a (b ∷ numbers) least (contains_later b numbers least later)
     ]
 
-least_of_two : (least a b : ℕ) (numbers : List ℕ) → IsLeast least (min a b ∷ numbers) → IsLeast least (a ∷ b ∷ numbers)
+pub least_of_two : (least a b : ℕ) (numbers : List ℕ) → IsLeast least (min a b ∷ numbers) → IsLeast least (a ∷ b ∷ numbers)
 least_of_two least a b numbers is_least =
     let head : least ≤ min a b = All-head (λ other. least ≤ other) (min a b) numbers is_least.below in
     let tail : All (λ other. least ≤ other) numbers = All-tail (λ other. least ≤ other) (min a b) numbers is_least.below in

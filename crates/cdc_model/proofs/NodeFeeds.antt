@@ -44,14 +44,14 @@ feed_begins last start node = record {
 
 -- ---- settled branches of lists that are the same under a mark
 
-same_flat : (keys : List Key) (branches others : List CommittedBranch) → ((key : Key) → Contains keys key → own_branches branches key ≡ own_branches others key)
+pub same_flat : (keys : List Key) (branches others : List CommittedBranch) → ((key : Key) → Contains keys key → own_branches branches key ≡ own_branches others key)
     → flat_map (own_branches branches) keys ≡ flat_map (own_branches others) keys
 same_flat [] branches others same = refl
 same_flat (key ∷ keys) branches others same =
     ap (λ (list : List CommittedBranch). list ++ flat_map (own_branches branches) keys) (same key (contains_first key keys))
     ∙ ap (λ (list : List CommittedBranch). own_branches others key ++ list) (same_flat keys branches others (λ k within. same k (contains_later key keys k within)))
 
-same_settled_branches : (mark : ℕ) (branches others : List CommittedBranch) → SameUnder mark branches others → settled_branches mark branches ≡ settled_branches mark others
+pub same_settled_branches : (mark : ℕ) (branches others : List CommittedBranch) → SameUnder mark branches others → settled_branches mark branches ≡ settled_branches mark others
 same_settled_branches mark branches others same =
     same_flat (settled_keys mark branches) branches others (λ key within. same key (settled_member mark branches key within).0)
     ∙ ap (flat_map (own_branches others)) (same_settled_keys mark branches others same)
@@ -59,7 +59,7 @@ same_settled_branches mark branches others same =
 -- ---- one sound entry more
 
 -- further branches that a mark doesn't settle leave the branches under it
-more_same : (mark : ℕ) (branches more : List CommittedBranch) → AllByRecursion (λ (branch : CommittedBranch). is_settled mark branch.key ≡ false) more
+pub more_same : (mark : ℕ) (branches more : List CommittedBranch) → AllByRecursion (λ (branch : CommittedBranch). is_settled mark branch.key ≡ false) more
     → SameUnder mark branches (branches ++ more)
 more_same mark branches more above key settled =
     sym (filter-append (has_key key) branches more
@@ -67,7 +67,7 @@ more_same mark branches more above key settled =
     ∙ append-nil (own_branches branches key))
 
 -- a feed is one of more branches, under a mark that isn't lower
-feed_on : (mark later : ℕ) (committed more : List CommittedBranch) (feed : NodeFeed) → mark ≤ later
+pub feed_on : (mark later : ℕ) (committed more : List CommittedBranch) (feed : NodeFeed) → mark ≤ later
     → AllByRecursion (λ (branch : CommittedBranch). is_settled mark branch.key ≡ false) more
     → FeedsFrom mark committed feed → FeedsFrom later (committed ++ more) feed
 feed_on mark later committed more feed h above feeds =
@@ -83,7 +83,7 @@ feed_on mark later committed more feed h above feeds =
           subst (λ (list : List CommittedBranch). IsFront list feed.branches) (same_settled_branches feed.bound committed (committed ++ more) same_low) feeds.told;
     }
 
-settled_goes_on : (mark later : ℕ) (branches more : List CommittedBranch) → mark ≤ later
+pub settled_goes_on : (mark later : ℕ) (branches more : List CommittedBranch) → mark ≤ later
     → AllByRecursion (λ (branch : CommittedBranch). is_settled mark branch.key ≡ false) more
     → IsFront (settled_branches mark branches) (settled_branches later (branches ++ more))
 settled_goes_on mark later branches more h above =
@@ -114,7 +114,7 @@ feed_reads_on last start node history entry sound =
 -- ---- a branch more, and a bound
 
 -- the branches of a key have it
-own_all : (P : Key → Type 0) (branches : List CommittedBranch) (key : Key) → P key → AllByRecursion (λ (branch : CommittedBranch). P branch.key) (own_branches branches key)
+pub own_all : (P : Key → Type 0) (branches : List CommittedBranch) (key : Key) → P key → AllByRecursion (λ (branch : CommittedBranch). P branch.key) (own_branches branches key)
 own_all P [] key holds = tt
 own_all P (branch ∷ branches) key holds = by (has_key key branch) refl (own_all P branches key holds)
   where
@@ -123,19 +123,19 @@ own_all P (branch ∷ branches) key holds = by (has_key key branch) refl (own_al
     by true is later = (subst P (has_is key branch is) holds, later)
     by false is later = later
 
-flat_all : (P : Key → Type 0) (branches : List CommittedBranch) (keys : List Key) → AllByRecursion P keys
+pub flat_all : (P : Key → Type 0) (branches : List CommittedBranch) (keys : List Key) → AllByRecursion P keys
     → AllByRecursion (λ (branch : CommittedBranch). P branch.key) (flat_map (own_branches branches) keys)
 flat_all P branches [] all = tt
 flat_all P branches (key ∷ keys) (here, all) =
     all_both (λ (branch : CommittedBranch). P branch.key) (own_branches branches key) (flat_map (own_branches branches) keys)
     (own_all P branches key here) (flat_all P branches keys all)
 
-contains_behind : (list rest : List Key) (key : Key) → Contains rest key → Contains (list ++ rest) key
+pub contains_behind : (list rest : List Key) (key : Key) → Contains rest key → Contains (list ++ rest) key
 contains_behind [] rest key within = within
 contains_behind (first ∷ list) rest key within = contains_later first (list ++ rest) key (contains_behind list rest key within)
 
 -- no key is in both parts of an ascending list
-apart : (front rest : List Key) (key : Key) → IsStrictlySortedBy key_order (front ++ rest) → Contains front key → Contains rest key → ⊥
+pub apart : (front rest : List Key) (key : Key) → IsStrictlySortedBy key_order (front ++ rest) → Contains front key → Contains rest key → ⊥
 unfolding IsStrictlySortedBy
 apart [] rest key sorted here there = contains_none key here
 apart (first ∷ front) rest key (below, sorted) here there =
@@ -145,12 +145,12 @@ apart (first ∷ front) rest key (below, sorted) here there =
       | inr later ↦ apart front rest key sorted later there
     ]
 
-each_unsettled : (less : ℕ) (keys : List Key) → ((key : Key) → Contains keys key → is_settled less key ≡ false) → AllByRecursion (λ (key : Key). is_settled less key ≡ false) keys
+pub each_unsettled : (less : ℕ) (keys : List Key) → ((key : Key) → Contains keys key → is_settled less key ≡ false) → AllByRecursion (λ (key : Key). is_settled less key ≡ false) keys
 each_unsettled less [] all = tt
 each_unsettled less (key ∷ keys) all = (all key (contains_first key keys), each_unsettled less keys (λ k within. all k (contains_later key keys k within)))
 
 -- the further keys of a greater mark aren't settled under the lesser
-rest_unsettled : (less mark : ℕ) (branches : List CommittedBranch) (rest : List Key) → settled_keys mark branches ≡ settled_keys less branches ++ rest
+pub rest_unsettled : (less mark : ℕ) (branches : List CommittedBranch) (rest : List Key) → settled_keys mark branches ≡ settled_keys less branches ++ rest
     → AllByRecursion (λ (key : Key). is_settled less key ≡ false) rest
 rest_unsettled less mark branches rest whole = each_unsettled less rest (λ key within. by key within (is_settled less key) refl)
   where
@@ -209,7 +209,7 @@ abbrev AscendByEntry : List CommittedBranch → Type 0
 AscendByEntry [] = Unit {0}
 AscendByEntry (branch ∷ branches) = AllByRecursion (λ (other : CommittedBranch). branch.entry < other.entry) branches × AscendByEntry branches
 
-given_at : (P : CommittedBranch → Type 0) (node : ℕ) (kind : EntryKind) (s : Start) → ((branch : CommittedBranch) → branch.entry ≡ s.entry → P branch)
+pub given_at : (P : CommittedBranch → Type 0) (node : ℕ) (kind : EntryKind) (s : Start) → ((branch : CommittedBranch) → branch.entry ≡ s.entry → P branch)
     → AllByRecursion (λ (b : Begun). P b.1) (branch_of node kind s)
 given_at P node (Prepare xid rows) s each = tt
 given_at P node (OnePhase xid rows timestamp seconds) s each = (each _ refl, tt)
@@ -298,13 +298,13 @@ module _ (last : Key) (start : Start) where
       (given_ascends node entry.kind here))
 
 -- what holds of each branch holds of those that are picked by keys
-picked_all : (P : CommittedBranch → Type 0) (branches : List CommittedBranch) (keys : List Key) → AllByRecursion P branches
+pub picked_all : (P : CommittedBranch → Type 0) (branches : List CommittedBranch) (keys : List Key) → AllByRecursion P branches
     → AllByRecursion P (flat_map (own_branches branches) keys)
 picked_all P branches [] all = tt
 picked_all P branches (key ∷ keys) all =
     all_both P (own_branches branches key) (flat_map (own_branches branches) keys) (all_filtered P (has_key key) branches all) (picked_all P branches keys all)
 
-own_behind : (branch : CommittedBranch) (key : Key) (branches : List CommittedBranch) → key ≡ branch.key
+pub own_behind : (branch : CommittedBranch) (key : Key) (branches : List CommittedBranch) → key ≡ branch.key
     → AllByRecursion (λ (other : CommittedBranch). branch.entry < other.entry) branches → AllByRecursion (StandsBefore branch) (own_branches branches key)
 own_behind branch key [] same all = tt
 own_behind branch key (other ∷ branches) same (here, all) = by (has_key key other) refl (own_behind branch key branches same all)
@@ -314,7 +314,7 @@ own_behind branch key (other ∷ branches) same (here, all) = by (has_key key ot
     by true is later = (inr (sym same ∙ has_is key other is, here), later)
     by false is later = later
 
-own_in_order : (branches : List CommittedBranch) (key : Key) → AscendByEntry branches → StandInOrder (own_branches branches key)
+pub own_in_order : (branches : List CommittedBranch) (key : Key) → AscendByEntry branches → StandInOrder (own_branches branches key)
 own_in_order [] key ascend = tt
 own_in_order (branch ∷ branches) key (first, ascend) = by (has_key key branch) refl (own_in_order branches key ascend)
   where
@@ -323,13 +323,13 @@ own_in_order (branch ∷ branches) key (first, ascend) = by (has_key key branch)
     by true is later = (own_behind branch key branches (has_is key branch is) first, later)
     by false is later = later
 
-order_append : (front back : List CommittedBranch) → StandInOrder front → StandInOrder back
+pub order_append : (front back : List CommittedBranch) → StandInOrder front → StandInOrder back
     → AllByRecursion (λ (branch : CommittedBranch). AllByRecursion (StandsBefore branch) back) front → StandInOrder (front ++ back)
 order_append [] back first later below = later
 order_append (branch ∷ front) back (here, first) later (before, below) =
     (all_both (StandsBefore branch) front back here before, order_append front back first later below)
 
-below_flat : (key : Key) (branches back : List CommittedBranch) → AllByRecursion (λ (other : CommittedBranch). key_order key other.key ≡ Less) back
+pub below_flat : (key : Key) (branches back : List CommittedBranch) → AllByRecursion (λ (other : CommittedBranch). key_order key other.key ≡ Less) back
     → AllByRecursion (λ (branch : CommittedBranch). AllByRecursion (StandsBefore branch) back) (own_branches branches key)
 below_flat key branches back all =
     all_weaker (λ (branch : CommittedBranch). AllByRecursion (λ (other : CommittedBranch). key_order branch.key other.key ≡ Less) back)
@@ -337,7 +337,7 @@ below_flat key branches back all =
     (λ branch less. all_weaker (λ (other : CommittedBranch). key_order branch.key other.key ≡ Less) (StandsBefore branch) (λ other h. inl h) back less)
     (own_branches branches key) (own_all (λ (k : Key). AllByRecursion (λ (other : CommittedBranch). key_order k other.key ≡ Less) back) branches key all)
 
-flat_in_order : (branches : List CommittedBranch) (keys : List Key) → AscendByEntry branches → IsStrictlySortedBy key_order keys
+pub flat_in_order : (branches : List CommittedBranch) (keys : List Key) → AscendByEntry branches → IsStrictlySortedBy key_order keys
     → StandInOrder (flat_map (own_branches branches) keys)
 unfolding IsStrictlySortedBy
 flat_in_order branches [] ascend sorted = tt
@@ -346,7 +346,7 @@ flat_in_order branches (key ∷ keys) ascend (below, sorted) =
     (flat_in_order branches keys ascend sorted)
     (below_flat key branches (flat_map (own_branches branches) keys) (flat_all (λ (other : Key). key_order key other ≡ Less) branches keys below))
 
-all_settled : (mark : ℕ) (keys : List Key) → ((key : Key) → Contains keys key → is_settled mark key ≡ true) → AllByRecursion (λ (key : Key). is_settled mark key ≡ true) keys
+pub all_settled : (mark : ℕ) (keys : List Key) → ((key : Key) → Contains keys key → is_settled mark key ≡ true) → AllByRecursion (λ (key : Key). is_settled mark key ≡ true) keys
 all_settled mark [] each = tt
 all_settled mark (key ∷ keys) each = (each key (contains_first key keys), all_settled mark keys (λ k within. each k (contains_later key keys k within)))
 

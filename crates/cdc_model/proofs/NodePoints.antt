@@ -12,7 +12,7 @@ use Rattle.cdc_model.proofs.RestartPoints.{at_most_itself, restart_point_stays}
 use Rattle.cdc_model.proofs.RestartRest.{restart_reads_the_rest}
 use Rattle.cdc_model.proofs.RestartAgain.{restarted_points_are_the_wholes}
 
-points_stay : (last later : Key) (number : ℕ) (olds news : List NodeLog) (points : List RestartPoint) → IsAtMost last later → LogsGrow olds news
+pub points_stay : (last later : Key) (number : ℕ) (olds news : List NodeLog) (points : List RestartPoint) → IsAtMost last later → LogsGrow olds news
     → AllZip (λ (node : ℕ × NodeLog) (point : RestartPoint). IsRestartPoint last first_point node.0 (sound_entries node.1.start node.1.entries) point) (enumerate_from number olds) points
     → AllZip (λ (node : ℕ × NodeLog) (point : RestartPoint). IsRestartPoint later first_point node.0 (sound_entries node.1.start node.1.entries) point) (enumerate_from number news) points
 points_stay last later number [] [] [] low grow are = tt

@@ -12,12 +12,12 @@ abbrev Ends : ℕ → List Transaction → Option Transaction → Type 0
 Ends at txns beyond = MatchOption beyond (HasAll at txns) (EndsBefore at txns)
 
 -- the length of a print and of those behind it
-more_length : (at : ℕ) (txn : Transaction) (txns : List Transaction)
+pub more_length : (at : ℕ) (txn : Transaction) (txns : List Transaction)
     → at + length (prints_at [] at (txn ∷ txns)) ≡ at + printed_length [] txn + length (prints_at [] (at + printed_length [] txn) txns)
 more_length at txn txns =
     omega (arith, length-append (printed_bytes [] txn at) (prints_at [] (at + printed_length [] txn) txns), length_printed [] txn at)
 
-ends_later : (at : ℕ) (txn : Transaction) (txns : List Transaction) (beyond : Option Transaction) → leb (at + printed_length [] txn) last_place ≡ true
+pub ends_later : (at : ℕ) (txn : Transaction) (txns : List Transaction) (beyond : Option Transaction) → leb (at + printed_length [] txn) last_place ≡ true
     → Ends (at + printed_length [] txn) txns beyond → Ends at (txn ∷ txns) beyond
 ends_later at txn txns None is all = record {
   fits = omega (arith, all.fits, more_length at txn txns);

@@ -17,17 +17,17 @@ same_xid_laws = search (comparing, rules) depth 9
 
 -- ---- one element more, some elements fewer
 
-found_first : {X : Type 0} (test : Bool) (x : X) (rest : Option X) → is_some (cond test (Some x) rest) ≡ (test || is_some rest)
+pub found_first : {X : Type 0} (test : Bool) (x : X) (rest : Option X) → is_some (cond test (Some x) rest) ≡ (test || is_some rest)
 found_first true x rest = refl
 found_first false x rest = refl
 
 -- what is looked for stands behind some others
-found_behind : (first entered rest : Bool) → (first || (entered || rest)) ≡ (entered || (first || rest))
+pub found_behind : (first entered rest : Bool) → (first || (entered || rest)) ≡ (entered || (first || rest))
 found_behind true true rest = refl
 found_behind true false rest = refl
 found_behind false entered rest = refl
 
-found_entered_at : {X : Type 0} (test : X → Bool) (x first : X) (rest later : List X) (before : Bool)
+pub found_entered_at : {X : Type 0} (test : X → Bool) (x first : X) (rest later : List X) (before : Bool)
     → is_some (find test later) ≡ (test x || is_some (find test rest))
     → is_some (find test (cond before (x ∷ first ∷ rest) (first ∷ later))) ≡ (test x || is_some (find test (first ∷ rest)))
 found_entered_at test x first rest later true behind = found_first (test x) x (find test (first ∷ rest))
@@ -38,7 +38,7 @@ found_entered_at test x first rest later false behind =
     ∙ ap (λ (b : Bool). test x || b) (sym (found_first (test first) first (find test rest)))
 
 -- an xid is open once its branch is entered
-found_entered : (xid : Xid) (branch : OpenBranch) (opened : List OpenBranch)
+pub found_entered : (xid : Xid) (branch : OpenBranch) (opened : List OpenBranch)
     → is_some (find_open xid (enter branch opened)) ≡ (same_xid xid branch.xid || is_some (find_open xid opened))
 found_entered xid branch [] = found_first (same_xid xid branch.xid) branch None
 found_entered xid branch (first ∷ rest) =
@@ -47,7 +47,7 @@ found_entered xid branch (first ∷ rest) =
 
 -- whether the first of some elements is left out (`out`), is looked for (`here`), and whether what is left out is what is
 -- looked for (`same`)
-found_kept_at : (out here same rest : Bool) → (out ≡ true → here ≡ same) → (out ≡ false → same ≡ true → here ≡ false)
+pub found_kept_at : (out here same rest : Bool) → (out ≡ true → here ≡ same) → (out ≡ false → same ≡ true → here ≡ false)
     → cond out (not same && rest) (here || (not same && rest)) ≡ (not same && (here || rest))
 found_kept_at true true true rest is other = refl
 found_kept_at true true false rest is other = absurd (let e = is refl in cc)
@@ -57,13 +57,13 @@ found_kept_at false here false rest is other = refl
 found_kept_at false true true rest is other = absurd (let e = other refl refl in cc)
 found_kept_at false false true rest is other = refl
 
-found_kept_first : {X : Type 0} (test : X → Bool) (out : Bool) (x : X) (rest : List X)
+pub found_kept_first : {X : Type 0} (test : X → Bool) (out : Bool) (x : X) (rest : List X)
     → is_some (find test (cond (not out) (x ∷ rest) rest)) ≡ cond out (is_some (find test rest)) (test x || is_some (find test rest))
 found_kept_first test true x rest = refl
 found_kept_first test false x rest = found_first (test x) x (find test rest)
 
 -- without the elements that tie with another key, a key is found where it was and doesn't tie with it
-found_without : {X K : Type 0} (same : K → K → Bool) → IsEquivalence same → (key : X → K) (k other : K) (xs : List X)
+pub found_without : {X K : Type 0} (same : K → K → Bool) → IsEquivalence same → (key : X → K) (k other : K) (xs : List X)
     → is_some (find (λ x. same k (key x)) (filter (λ x. not (same other (key x))) xs)) ≡ (not (same k other) && is_some (find (λ x. same k (key x)) xs))
 found_without same laws key k other [] = sym (and-false (not (same k other)))
 found_without same laws key k other (x ∷ xs) =
@@ -78,15 +78,15 @@ found_without same laws key k other (x ∷ xs) =
 
 -- ---- the verdict of the newest entry
 
-opens : (same before : Bool) → (same || (not same && before)) ≡ verdict_or (if same then Some true else None) before
+pub opens : (same before : Bool) → (same || (not same && before)) ≡ verdict_or (if same then Some true else None) before
 opens true before = refl
 opens false before = refl
 
-ends : (same before : Bool) → (not same && before) ≡ verdict_or (if same then Some false else None) before
+pub ends : (same before : Bool) → (not same && before) ≡ verdict_or (if same then Some false else None) before
 ends true before = refl
 ends false before = refl
 
-is_open_next : (xid : Xid) (kind : EntryKind) (start : Start)
+pub is_open_next : (xid : Xid) (kind : EntryKind) (start : Start)
     → is_some (find_open xid (opened_by kind start)) ≡ verdict_or (verdict xid kind) (is_some (find_open xid start.opened))
 is_open_next xid (Prepare other rows) start =
     found_entered xid record { xid = other; floor = start.mark; entry = start.entry; rows = rows } (without other start.opened)

@@ -19,7 +19,7 @@ use Rattle.cdc_model.proofs.SoundFront.{left_append}
 pub find_at : {X : Type 0} (test : X → Bool) (x : X) (xs : List X) (passes : Bool) → test x ≡ passes → find test (x ∷ xs) ≡ cond passes (Some x) (find test xs)
 find_at test x xs passes is = ap (λ (b : Bool). cond b (Some x) (find test xs)) is
 
-find_kept : {X : Type 0} (test out : X → Bool) (x : X) (xs : List X) (leaves : Bool) → out x ≡ leaves → (leaves ≡ true → test x ≡ false)
+pub find_kept : {X : Type 0} (test out : X → Bool) (x : X) (xs : List X) (leaves : Bool) → out x ≡ leaves → (leaves ≡ true → test x ≡ false)
     → find test (filter (λ y. not (out y)) xs) ≡ find test xs → find test (filter (λ y. not (out y)) (x ∷ xs)) ≡ find test (x ∷ xs)
 find_kept {X} test out x xs true is fails behind =
     ap (λ (b : Bool). find test (cond (not b) (x ∷ filter (λ y. not (out y)) xs) (filter (λ y. not (out y)) xs))) is
@@ -29,13 +29,13 @@ find_kept {X} test out x xs false is fails behind =
     ∙ ap (λ (o : Option X). cond (test x) (Some x) o) behind
 
 -- what is left_by out doesn't pass, so the search finds what it found
-find_without_other : {X : Type 0} (test out : X → Bool) → ((x : X) → out x ≡ true → test x ≡ false) → (xs : List X)
+pub find_without_other : {X : Type 0} (test out : X → Bool) → ((x : X) → out x ≡ true → test x ≡ false) → (xs : List X)
     → find test (filter (λ y. not (out y)) xs) ≡ find test xs
 find_without_other test out apart [] = refl
 find_without_other test out apart (x ∷ xs) =
     find_kept test out x xs (out x) refl (apart x) (find_without_other test out apart xs)
 
-find_left_at : {X : Type 0} (test out : X → Bool) (x : X) (xs : List X) (leaves : Bool) → out x ≡ leaves → (leaves ≡ false → test x ≡ false)
+pub find_left_at : {X : Type 0} (test out : X → Bool) (x : X) (xs : List X) (leaves : Bool) → out x ≡ leaves → (leaves ≡ false → test x ≡ false)
     → find test (filter (λ y. not (out y)) xs) ≡ None → find test (filter (λ y. not (out y)) (x ∷ xs)) ≡ None
 find_left_at test out x xs true is fails behind =
     ap (λ (b : Bool). find test (cond (not b) (x ∷ filter (λ y. not (out y)) xs) (filter (λ y. not (out y)) xs))) is ∙ behind
@@ -44,17 +44,17 @@ find_left_at test out x xs false is fails behind =
     ∙ find_at test x (filter (λ y. not (out y)) xs) false (fails refl) ∙ behind
 
 -- all that passes is left_by out, so the search finds none
-find_without_same : {X : Type 0} (test out : X → Bool) → ((x : X) → out x ≡ false → test x ≡ false) → (xs : List X)
+pub find_without_same : {X : Type 0} (test out : X → Bool) → ((x : X) → out x ≡ false → test x ≡ false) → (xs : List X)
     → find test (filter (λ y. not (out y)) xs) ≡ None
 find_without_same test out all [] = refl
 find_without_same test out all (x ∷ xs) = find_left_at test out x xs (out x) refl (all x) (find_without_same test out all xs)
 
 -- ---- an xid among the branches but those of another
 
-differs_by : (xid other third : Xid) → same_xid xid other ≡ false → same_xid other third ≡ true → same_xid xid third ≡ false
+pub differs_by : (xid other third : Xid) → same_xid xid other ≡ false → same_xid other third ≡ true → same_xid xid third ≡ false
 differs_by xid other third differs same = subst (λ (x : Xid). same_xid xid x ≡ false) (same_xid_is other third same) differs
 
-same_by : (xid other third : Xid) → same_xid xid other ≡ true → same_xid other third ≡ false → same_xid xid third ≡ false
+pub same_by : (xid other third : Xid) → same_xid xid other ≡ true → same_xid other third ≡ false → same_xid xid third ≡ false
 same_by xid other third same differs = subst (λ (x : Xid). same_xid x third ≡ false) (sym (same_xid_is xid other same)) differs
 
 pub found_without_other : (xid other : Xid) (opened : List OpenBranch) → same_xid xid other ≡ false
@@ -70,7 +70,7 @@ found_without_same xid other opened same =
 
 -- ---- an xid among the branches and one more
 
-entered_here : {X : Type 0} (test : X → Bool) (x first : X) (rest later : List X) (before : Bool) → test x ≡ true → find test (first ∷ rest) ≡ None
+pub entered_here : {X : Type 0} (test : X → Bool) (x first : X) (rest later : List X) (before : Bool) → test x ≡ true → find test (first ∷ rest) ≡ None
     → (find test rest ≡ None → find test later ≡ Some x) → find test (cond before (x ∷ first ∷ rest) (first ∷ later)) ≡ Some x
 entered_here test x first rest later true here none behind = find_at test x (first ∷ rest) true here
 entered_here test x first rest later false here none behind = past (test first) refl
@@ -86,7 +86,7 @@ found_entered_same xid branch (first ∷ rest) same none =
     entered_here (λ (o : OpenBranch). same_xid xid o.xid) branch first rest (enter branch rest) (is_lt (xid_order branch.xid first.xid)) same none
     (found_entered_same xid branch rest same)
 
-entered_other : {X : Type 0} (test : X → Bool) (x first : X) (rest later : List X) (before : Bool) → test x ≡ false → find test later ≡ find test rest
+pub entered_other : {X : Type 0} (test : X → Bool) (x first : X) (rest later : List X) (before : Bool) → test x ≡ false → find test later ≡ find test rest
     → find test (cond before (x ∷ first ∷ rest) (first ∷ later)) ≡ find test (first ∷ rest)
 entered_other test x first rest later true differs behind = find_at test x (first ∷ rest) false differs
 entered_other {X} test x first rest later false differs behind = ap (λ (o : Option X). cond (test first) (Some first) o) behind
@@ -110,10 +110,10 @@ pub data Tells (xid : Xid) (kind : EntryKind) (start : Start) : Type 0 where
   ends : verdict xid kind ≡ Some false → find_open xid (opened_by kind start) ≡ None → Tells xid kind start
   nothing : verdict xid kind ≡ None → find_open xid (opened_by kind start) ≡ find_open xid start.opened → Tells xid kind start
 
-verdict_at : (same : Bool) (told : Bool) (b : Bool) → same ≡ b → cond same (Some told) None ≡ cond b (Some told) None
+pub verdict_at : (same : Bool) (told : Bool) (b : Bool) → same ≡ b → cond same (Some told) None ≡ cond b (Some told) None
 verdict_at same told b is = ap (λ (c : Bool). cond c (Some told) None) is
 
-prepare_tells : (xid other : Xid) (rows : List Row) (start : Start) (same : Bool) → same_xid xid other ≡ same → Tells xid (Prepare other rows) start
+pub prepare_tells : (xid other : Xid) (rows : List Row) (start : Start) (same : Bool) → same_xid xid other ≡ same → Tells xid (Prepare other rows) start
 prepare_tells xid other rows start true is =
     let one : xid ≡ other = same_xid_is xid other is in
     subst (λ (x : Xid). Tells xid (Prepare x rows) start) one
@@ -124,7 +124,7 @@ prepare_tells xid other rows start false is =
     nothing (verdict_at (same_xid xid other) true false is)
     (found_entered_other xid (opens_at start other rows) (without other start.opened) is ∙ found_without_other xid other start.opened is)
 
-end_tells : (xid other : Xid) (start : Start) (kind : EntryKind) (same : Bool) → same_xid xid other ≡ same
+pub end_tells : (xid other : Xid) (start : Start) (kind : EntryKind) (same : Bool) → same_xid xid other ≡ same
     → verdict xid kind ≡ cond (same_xid xid other) (Some false) None → opened_by kind start ≡ without other start.opened → Tells xid kind start
 end_tells xid other start kind true is told now =
     ends (told ∙ verdict_at (same_xid xid other) false true is) (ap (find_open xid) now ∙ found_without_same xid other start.opened is)
@@ -141,7 +141,7 @@ tells xid (Beat timestamp) start = nothing refl refl
 
 -- ---- a history
 
-prepare_speaks : (xid : Xid) (rows : List Row) → verdict xid (Prepare xid rows) ≡ Some true
+pub prepare_speaks : (xid : Xid) (rows : List Row) → verdict xid (Prepare xid rows) ≡ Some true
 prepare_speaks xid rows = ap (λ (b : Bool). cond b (Some true) None) (same_xid_laws.refl xid)
 
 -- an entry that says nothing leaves the branch as it was
@@ -158,17 +158,17 @@ pub unsaid_history : (xid : Xid) (start : Start) (history : List LogEntry) → S
 unsaid_history xid start [] all = refl
 unsaid_history xid start (entry ∷ earlier) (none, all) = unsaid xid entry.kind (left_by start earlier) none ∙ unsaid_history xid start earlier all
 
-some_is : {X : Type 0} (x y : X) → Some x ≡ Some y → x ≡ y
+pub some_is : {X : Type 0} (x y : X) → Some x ≡ Some y → x ≡ y
 some_is x y e = cc
 
 abbrev open_branch : Xid → ℕ → ℕ → List Row → OpenBranch
 open_branch xid floor entry rows = record { xid = xid; floor = floor; entry = entry; rows = rows }
 
-opened_here : (start : Start) (xid : Xid) (rows : List Row) (earlier : List LogEntry)
+pub opened_here : (start : Start) (xid : Xid) (rows : List Row) (earlier : List LogEntry)
     → opens_at (left_by start earlier) xid rows ≡ branch_opened start xid rows earlier
 opened_here start xid rows earlier = ap (λ (n : ℕ). open_branch xid (left_by start earlier).mark n rows) (numbers_count start earlier)
 
-found_stands : (start : Start) (history : List LogEntry) (xid : Xid) (branch : OpenBranch) → find_open xid (left_by start history).opened ≡ Some branch
+pub found_stands : (start : Start) (history : List LogEntry) (xid : Xid) (branch : OpenBranch) → find_open xid (left_by start history).opened ≡ Some branch
     → StandsOpen start history xid branch
 found_stands start [] xid branch found = inr (tt, found)
 found_stands start (entry ∷ earlier) xid branch found = by (tells xid entry.kind (left_by start earlier)) (found_stands start earlier xid branch)
@@ -202,14 +202,14 @@ found_stands start (entry ∷ earlier) xid branch found = by (tells xid entry.ki
     by (nothing told now) behind = later told (behind (sym now ∙ found))
 
 -- what a Prepare opens is found
-prepared_found : (xid : Xid) (rows : List Row) (kind : EntryKind) (start : Start) → kind ≡ Prepare xid rows
+pub prepared_found : (xid : Xid) (rows : List Row) (kind : EntryKind) (start : Start) → kind ≡ Prepare xid rows
     → find_open xid (opened_by kind start) ≡ Some (opens_at start xid rows)
 prepared_found xid rows kind start is =
     ap (λ (k : EntryKind). find_open xid (opened_by k start)) is
     ∙ found_entered_same xid (opens_at start xid rows) (without xid start.opened) (same_xid_laws.refl xid)
     (found_without_same xid xid start.opened (same_xid_laws.refl xid))
 
-stands_found : (start : Start) (history : List LogEntry) (xid : Xid) (branch : OpenBranch) → StandsOpen start history xid branch
+pub stands_found : (start : Start) (history : List LogEntry) (xid : Xid) (branch : OpenBranch) → StandsOpen start history xid branch
     → find_open xid (left_by start history).opened ≡ Some branch
 stands_found start history xid branch (inl newest) =
     ap (λ (list : List LogEntry). find_open xid (left_by start list).opened) newest.in_order

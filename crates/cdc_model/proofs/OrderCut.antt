@@ -31,7 +31,7 @@ found_later test x xs is = ap (λ (b : Bool). cond b (Some x) (find test xs)) is
 
 -- ---- what the first transactions keep
 
-contains_taken : {X : Type 0} (count : ℕ) (xs : List X) (x : X) → Contains (take count xs) x → Contains xs x
+pub contains_taken : {X : Type 0} (count : ℕ) (xs : List X) (x : X) → Contains (take count xs) x → Contains xs x
 contains_taken zero xs x within = absurd (contains_none x within)
 contains_taken (suc count) [] x within = within
 contains_taken (suc count) (first ∷ xs) x within =
@@ -40,18 +40,18 @@ contains_taken (suc count) (first ∷ xs) x within =
       | inr later ↦ contains_later first xs x (contains_taken count xs x later)
     ]
 
-below_taken : (count : ℕ) (key : Key) (txns : List Transaction) → IsBelowAll key (keys_in txns) → IsBelowAll key (keys_in (take count txns))
+pub below_taken : (count : ℕ) (key : Key) (txns : List Transaction) → IsBelowAll key (keys_in txns) → IsBelowAll key (keys_in (take count txns))
 below_taken zero key txns all = tt
 below_taken (suc count) key [] all = tt
 below_taken (suc count) key (txn ∷ txns) (below, all) = (below, below_taken count key txns all)
 
-sorted_taken : (count : ℕ) (txns : List Transaction) → IsStrictlySortedBy key_order (keys_in txns) → IsStrictlySortedBy key_order (keys_in (take count txns))
+pub sorted_taken : (count : ℕ) (txns : List Transaction) → IsStrictlySortedBy key_order (keys_in txns) → IsStrictlySortedBy key_order (keys_in (take count txns))
 unfolding IsStrictlySortedBy
 sorted_taken zero txns sorted = tt
 sorted_taken (suc count) [] sorted = tt
 sorted_taken (suc count) (txn ∷ txns) (all, sorted) = (below_taken count txn.key txns all, sorted_taken count txns sorted)
 
-numbered_taken : (count first : ℕ) (txns : List Transaction) → map (λ (txn : Transaction). txn.number) txns ≡ numbers_from first (length txns)
+pub numbered_taken : (count first : ℕ) (txns : List Transaction) → map (λ (txn : Transaction). txn.number) txns ≡ numbers_from first (length txns)
     → map (λ (txn : Transaction). txn.number) (take count txns) ≡ numbers_from first (length (take count txns))
 numbered_taken zero first txns is = refl
 numbered_taken (suc count) first [] is = refl
@@ -62,12 +62,12 @@ numbered_taken (suc count) first (txn ∷ txns) is =
 
 -- ---- the keys below the first transaction that passes a test
 
-below_end_at : (passes : Bool) (key : Key) (txn : Transaction) (end : Option Transaction) → key_order key txn.key ≡ Less
+pub below_end_at : (passes : Bool) (key : Key) (txn : Transaction) (end : Option Transaction) → key_order key txn.key ≡ Less
     → IsBelow end key → IsBelow (cond passes (Some txn) end) key
 below_end_at true key txn end below behind = below
 below_end_at false key txn end below behind = behind
 
-below_end : (test : Transaction → Bool) (key : Key) (txns : List Transaction) → IsBelowAll key (keys_in txns) → IsBelow (find test txns) key
+pub below_end : (test : Transaction → Bool) (key : Key) (txns : List Transaction) → IsBelowAll key (keys_in txns) → IsBelow (find test txns) key
 below_end test key [] all = tt
 below_end test key (txn ∷ txns) (below, all) = below_end_at (test txn) key txn (find test txns) below (below_end test key txns all)
 
@@ -75,7 +75,7 @@ below_end test key (txn ∷ txns) (below, all) = below_end_at (test txn) key txn
 abbrev IsKeyBelow : List Transaction → Option Transaction → Key → Type 0
 IsKeyBelow txns end key = Contains (keys_in txns) key × IsBelow end key
 
-before_at : (test : Transaction → Bool) (txn : Transaction) (txns : List Transaction) (key : Key) (passes : Bool) → test txn ≡ passes
+pub before_at : (test : Transaction → Bool) (txn : Transaction) (txns : List Transaction) (key : Key) (passes : Bool) → test txn ≡ passes
     → IsBelowAll txn.key (keys_in txns) → (Contains (keys_in (before_first test txns)) key → IsKeyBelow txns (find test txns) key)
     → Contains (keys_in (before_first test (txn ∷ txns))) key → IsKeyBelow (txn ∷ txns) (find test (txn ∷ txns)) key
 before_at test txn txns key true is all behind within =
@@ -90,7 +90,7 @@ before_at test txn txns key false is all behind within =
       | inr later ↦ let below = behind later in (contains_later txn.key (keys_in txns) key below.0, below.1)
     ])
 
-before_is_below : (test : Transaction → Bool) (txns : List Transaction) (key : Key) → IsStrictlySortedBy key_order (keys_in txns)
+pub before_is_below : (test : Transaction → Bool) (txns : List Transaction) (key : Key) → IsStrictlySortedBy key_order (keys_in txns)
     → Contains (keys_in (before_first test txns)) key → IsKeyBelow txns (find test txns) key
 unfolding IsStrictlySortedBy
 before_is_below test [] key sorted within = absurd (contains_none key within)
@@ -98,14 +98,14 @@ before_is_below test (txn ∷ txns) key (all, sorted) within =
     before_at test txn txns key (test txn) refl all (before_is_below test txns key sorted) within
 
 -- the first of some ascending keys has none of them below it
-none_below_first : (first : Key) (keys : List Key) (key : Key) → IsBelowAll first keys → Contains (first ∷ keys) key → key_order key first ≡ Less → ⊥
+pub none_below_first : (first : Key) (keys : List Key) (key : Key) → IsBelowAll first keys → Contains (first ∷ keys) key → key_order key first ≡ Less → ⊥
 none_below_first first keys key all within below =
     elim (contains_cases first keys key within) [
       | inl is ↦ not_below_itself first (subst (λ k. key_order k first ≡ Less) (sym is) below)
       | inr later ↦ not_both_below first key (below_member first keys key all later) below
     ]
 
-below_at : (test : Transaction → Bool) (txn : Transaction) (txns : List Transaction) (key : Key) (passes : Bool) → test txn ≡ passes
+pub below_at : (test : Transaction → Bool) (txn : Transaction) (txns : List Transaction) (key : Key) (passes : Bool) → test txn ≡ passes
     → IsBelowAll txn.key (keys_in txns) → (IsKeyBelow txns (find test txns) key → Contains (keys_in (before_first test txns)) key)
     → IsKeyBelow (txn ∷ txns) (find test (txn ∷ txns)) key → Contains (keys_in (before_first test (txn ∷ txns))) key
 below_at test txn txns key true is all behind (within, below) =
@@ -119,7 +119,7 @@ below_at test txn txns key false is all behind (within, below) =
           (behind (later, subst (λ (end : Option Transaction). IsBelow end key) (found_later test txn txns is) below))
     ])
 
-below_is_before : (test : Transaction → Bool) (txns : List Transaction) (key : Key) → IsStrictlySortedBy key_order (keys_in txns)
+pub below_is_before : (test : Transaction → Bool) (txns : List Transaction) (key : Key) → IsStrictlySortedBy key_order (keys_in txns)
     → IsKeyBelow txns (find test txns) key → Contains (keys_in (before_first test txns)) key
 unfolding IsStrictlySortedBy
 below_is_before test [] key sorted below = below.0
@@ -128,7 +128,7 @@ below_is_before test (txn ∷ txns) key (all, sorted) below =
 
 -- ---- the settled transactions
 
-cut_order : (test : Transaction → Bool) (count mark : ℕ) (branches : List CommittedBranch) (txns : List Transaction)
+pub cut_order : (test : Transaction → Bool) (count mark : ℕ) (branches : List CommittedBranch) (txns : List Transaction)
     → AreTransactionsOf count mark branches None txns → AreTransactionsOf count mark branches (find test txns) (before_first test txns)
 cut_order test count mark branches txns all = record {
   ascending = sorted_taken (position_or_len test txns) txns all.ascending;
@@ -153,7 +153,7 @@ settled_is_exact rules count last logs =
 
 -- ---- their size
 
-fails_before_at : {X : Type 0} (test : X → Bool) (first : X) (xs : List X) (x : X) (passes : Bool) → test first ≡ passes
+pub fails_before_at : {X : Type 0} (test : X → Bool) (first : X) (xs : List X) (x : X) (passes : Bool) → test first ≡ passes
     → (Contains (before_first test xs) x → test x ≡ false) → Contains (before_first test (first ∷ xs)) x → test x ≡ false
 fails_before_at test first xs x true is behind within =
     absurd (contains_none x (subst (λ list. Contains list x) (first_passes test first xs is) within))
@@ -163,16 +163,16 @@ fails_before_at test first xs x false is behind within =
       | inr later ↦ behind later
     ]
 
-fails_before : {X : Type 0} (test : X → Bool) (xs : List X) (x : X) → Contains (before_first test xs) x → test x ≡ false
+pub fails_before : {X : Type 0} (test : X → Bool) (xs : List X) (x : X) → Contains (before_first test xs) x → test x ≡ false
 fails_before test [] x within = absurd (contains_none x within)
 fails_before test (first ∷ xs) x within = fails_before_at test first xs x (test first) refl (fails_before test xs x) within
 
-found_passes_at : {X : Type 0} (test : X → Bool) (first : X) (end : Option X) (x : X) (passes : Bool) → test first ≡ passes
+pub found_passes_at : {X : Type 0} (test : X → Bool) (first : X) (end : Option X) (x : X) (passes : Bool) → test first ≡ passes
     → (end ≡ Some x → test x ≡ true) → cond passes (Some first) end ≡ Some x → test x ≡ true
 found_passes_at test first end x true is behind found = let same : first ≡ x = cc in ap test (sym same) ∙ is
 found_passes_at test first end x false is behind found = behind found
 
-found_passes : {X : Type 0} (test : X → Bool) (xs : List X) (x : X) → find test xs ≡ Some x → test x ≡ true
+pub found_passes : {X : Type 0} (test : X → Bool) (xs : List X) (x : X) → find test xs ≡ Some x → test x ≡ true
 found_passes test [] x found = absurd (cc)
 found_passes test (first ∷ xs) x found = found_passes_at test first (find test xs) x (test first) refl (found_passes test xs x) found
 

@@ -26,7 +26,7 @@ use Rattle.cdc_model.proofs.SoundGrowth.{low_water_mark_rises}
 
 -- ---- a log is a feed that has told all
 
-unsettled : (mark : ℕ) (key : Key) → LiesAbove mark key → is_settled mark key ≡ false
+pub unsettled : (mark : ℕ) (key : Key) → LiesAbove mark key → is_settled mark key ≡ false
 unsettled mark (Shared timestamp gtrid) above = lt-leb timestamp mark above
 unsettled mark (PlainKey timestamp node entry) above = le-ltb timestamp mark above
 
@@ -41,7 +41,7 @@ feed_of_log last node = record { branches = node_branches last node; bound = nod
 abbrev feeds_of_logs : Key → ℕ → List NodeLog → List NodeFeed
 feeds_of_logs last number logs = map (feed_of_log last) (enumerate_from number logs)
 
-feed_grows : (last : Key) (node : ℕ) (old new : NodeLog) → LogGrows old new → FeedGrows (feed_of_log last (node, old)) (feed_of_log last (node, new))
+pub feed_grows : (last : Key) (node : ℕ) (old new : NodeLog) → LogGrows old new → FeedGrows (feed_of_log last (node, old)) (feed_of_log last (node, new))
 feed_grows last node old new grows =
     let rises = low_water_mark_rises last node old new grows in
     record {
@@ -51,35 +51,35 @@ feed_grows last node old new grows =
       bounded = rises.low;
     }
 
-feeds_grow : (last : Key) (number : ℕ) (olds news : List NodeLog) → LogsGrow olds news → AllZip FeedGrows (feeds_of_logs last number olds) (feeds_of_logs last number news)
+pub feeds_grow : (last : Key) (number : ℕ) (olds news : List NodeLog) → LogsGrow olds news → AllZip FeedGrows (feeds_of_logs last number olds) (feeds_of_logs last number news)
 feeds_grow last number [] [] all = tt
 feeds_grow last number [] (new ∷ news) all = absurd all
 feeds_grow last number (old ∷ olds) [] all = absurd all
 feeds_grow last number (old ∷ olds) (new ∷ news) (here, all) = (feed_grows last number old new here, feeds_grow last (number + 1) olds news all)
 
-marks_of_feeds : (last : Key) (number : ℕ) (logs : List NodeLog)
+pub marks_of_feeds : (last : Key) (number : ℕ) (logs : List NodeLog)
     → map (λ (feed : NodeFeed). feed.bound) (feeds_of_logs last number logs) ≡ map (λ log. node_low_water_mark (reached log)) logs
 marks_of_feeds last number [] = refl
 marks_of_feeds last number (log ∷ logs) = ap (λ (list : List ℕ). node_low_water_mark (reached log) ∷ list) (marks_of_feeds last (number + 1) logs)
 
-branches_of_feeds : (last : Key) (number : ℕ) (logs : List NodeLog)
+pub branches_of_feeds : (last : Key) (number : ℕ) (logs : List NodeLog)
     → fed_branches (feeds_of_logs last number logs) ≡ flat_map (node_branches last) (enumerate_from number logs)
 branches_of_feeds last number [] = refl
 branches_of_feeds last number (log ∷ logs) = ap (λ (list : List CommittedBranch). node_branches last (number, log) ++ list) (branches_of_feeds last (number + 1) logs)
 
-merged_of_logs : (count : ℕ) (last : Key) (logs : List NodeLog) → merged_transactions count (feeds_of_logs last 1 logs) ≡ ordered_transactions count last logs
+pub merged_of_logs : (count : ℕ) (last : Key) (logs : List NodeLog) → merged_transactions count (feeds_of_logs last 1 logs) ≡ ordered_transactions count last logs
 merged_of_logs count last logs =
     ap (λ (marks : List ℕ). transactions_under count (low_water_mark marks) (fed_branches (feeds_of_logs last 1 logs))) (marks_of_feeds last 1 logs)
     ∙ ap (transactions_under count (logs_low_water_mark logs)) (branches_of_feeds last 1 logs)
 
-ordered_grow : (count : ℕ) (last : Key) (olds news : List NodeLog) → LogsGrow olds news
+pub ordered_grow : (count : ℕ) (last : Key) (olds news : List NodeLog) → LogsGrow olds news
     → IsFront (ordered_transactions count last olds) (ordered_transactions count last news)
 ordered_grow count last olds news grow =
     subst (λ (list : List Transaction). IsFront list (ordered_transactions count last news)) (merged_of_logs count last olds)
     (subst (IsFront (merged_transactions count (feeds_of_logs last 1 olds))) (merged_of_logs count last news)
     (later_feeds_go_on count (feeds_of_logs last 1 olds) (feeds_of_logs last 1 news) (feeds_grow last 1 olds news grow)))
 
-marks_grow : (olds news : List NodeLog) → LogsGrow olds news
+pub marks_grow : (olds news : List NodeLog) → LogsGrow olds news
     → AllZip (λ (low high : ℕ). low ≤ high) (map (λ log. node_low_water_mark (reached log)) olds) (map (λ log. node_low_water_mark (reached log)) news)
 marks_grow [] [] all = tt
 marks_grow [] (new ∷ news) all = absurd all
@@ -138,13 +138,13 @@ settled_order_grows rules count last olds news grow =
 
 -- ---- the output of more transactions
 
-behind_files : (files further : List (List ℕ)) → IsLogPrefix files (files ++ further)
+pub behind_files : (files further : List (List ℕ)) → IsLogPrefix files (files ++ further)
 behind_files [] further = tt
 behind_files (file ∷ []) further = ([], sym (append-nil file))
 behind_files (file ∷ next ∷ files) further = (refl, behind_files (next ∷ files) further)
 
 -- the open file grows, and others come behind it
-grows_open : (closed : List (List ℕ)) (byte : ℕ) (bytes more : List ℕ) (further : List (List ℕ))
+pub grows_open : (closed : List (List ℕ)) (byte : ℕ) (bytes more : List ℕ) (further : List (List ℕ))
     → IsLogPrefix (closed ++ open_file (byte ∷ bytes)) (closed ++ ((byte ∷ bytes) ++ more) ∷ further)
 grows_open closed byte bytes more further = grown_log_continues closed (byte ∷ bytes) more further
 
@@ -154,7 +154,7 @@ output_by full closed file =
     if full then record { closed = closed ++ (file ++ rotate_event (length file) (length closed + 2)) ∷ []; current = [] }
     else record { closed = closed; current = file }
 
-step_grows_by : (full : Bool) (closed : List (List ℕ)) (current printed : List ℕ)
+pub step_grows_by : (full : Bool) (closed : List (List ℕ)) (current printed : List ℕ)
     → IsLogPrefix (closed ++ open_file current) (files_in (output_by full closed (file_begun current ++ printed)))
 step_grows_by true closed [] printed =
     subst (λ (files : List (List ℕ)). IsLogPrefix files (files_in (output_by true closed (file_head ++ printed)))) (sym (append-nil closed))
@@ -171,12 +171,12 @@ step_grows_by true closed (byte ∷ bytes) printed =
     (grows_open closed byte bytes (printed ++ rotated) [])
 step_grows_by false closed (byte ∷ bytes) printed = grows_open closed byte bytes printed []
 
-step_grows : (rules : List Rename) (rotation : ℕ) (output : Output) (txn : Transaction) → IsLogPrefix (files_in output) (files_in (output_with rules rotation output txn))
+pub step_grows : (rules : List Rename) (rotation : ℕ) (output : Output) (txn : Transaction) → IsLogPrefix (files_in output) (files_in (output_with rules rotation output txn))
 step_grows rules rotation output txn =
     let printed : List ℕ = printed_bytes rules txn (length (file_begun output.current)) in
     step_grows_by (leb rotation (length (file_begun output.current ++ printed))) output.closed output.current printed
 
-steps_grow : (rules : List Rename) (rotation : ℕ) (output : Output) (txns : List Transaction) → IsLogPrefix (files_in output) (files_in (output_after rules rotation output txns))
+pub steps_grow : (rules : List Rename) (rotation : ℕ) (output : Output) (txns : List Transaction) → IsLogPrefix (files_in output) (files_in (output_after rules rotation output txns))
 steps_grow rules rotation output [] = log_prefix_is_an_order.0 (files_in output)
 steps_grow rules rotation output (txn ∷ txns) =
     log_prefix_is_an_order.1 (files_in output) (files_in (output_with rules rotation output txn)) (files_in (output_after rules rotation (output_with rules rotation output txn) txns))
@@ -192,7 +192,7 @@ pub beyond_by : (at : ℕ) (txn : Transaction) (txns : List Transaction) (fits :
     → first_beyond at (txn ∷ txns) ≡ (if fits then first_beyond (at + printed_length [] txn) txns else Some txn)
 beyond_by at txn txns fits is = ap (λ (b : Bool). if b then first_beyond (at + printed_length [] txn) txns else Some txn) is
 
-within_grows : (at : ℕ) (txns rest : List Transaction) → Continues (prints_within at txns) (prints_within at (txns ++ rest))
+pub within_grows : (at : ℕ) (txns rest : List Transaction) → Continues (prints_within at txns) (prints_within at (txns ++ rest))
 within_grows at [] rest = (prints_within at rest, refl)
 within_grows at (txn ∷ txns) rest = by (leb (at + printed_length [] txn) last_place) refl (within_grows (at + printed_length [] txn) txns rest)
   where
@@ -210,7 +210,7 @@ within_grows at (txn ∷ txns) rest = by (leb (at + printed_length [] txn) last_
       within_by at txn (txns ++ rest) false is ∙ sym (within_by at txn txns false is) ∙ sym (append-nil (prints_within at (txn ∷ txns))),
     )
 
-beyond_stays : (at : ℕ) (txns rest : List Transaction) (txn : Transaction) → first_beyond at txns ≡ Some txn
+pub beyond_stays : (at : ℕ) (txns rest : List Transaction) (txn : Transaction) → first_beyond at txns ≡ Some txn
     → (first_beyond at (txns ++ rest) ≡ Some txn) × (prints_within at (txns ++ rest) ≡ prints_within at txns)
 beyond_stays at [] rest txn is = absurd (cc)
 beyond_stays at (first ∷ txns) rest txn found = by (leb (at + printed_length [] first) last_place) refl (beyond_stays (at + printed_length [] first) txns rest txn)
@@ -230,7 +230,7 @@ beyond_stays at (first ∷ txns) rest txn found = by (leb (at + printed_length [
       within_by at first (txns ++ rest) false is ∙ sym (within_by at first txns false is),
     )
 
-one_file_grows : (txns rest : List Transaction) → Continues (one_file txns) (one_file (txns ++ rest))
+pub one_file_grows : (txns rest : List Transaction) → Continues (one_file txns) (one_file (txns ++ rest))
 one_file_grows [] rest = (one_file rest, refl)
 one_file_grows (txn ∷ txns) rest =
     let grows = within_grows (length file_head) (txn ∷ txns) rest in (
@@ -239,7 +239,7 @@ one_file_grows (txn ∷ txns) rest =
     )
 
 -- the one file ends where it did
-one_file_stays : (txns rest : List Transaction) (txn : Transaction) → first_beyond (length file_head) txns ≡ Some txn → one_file (txns ++ rest) ≡ one_file txns
+pub one_file_stays : (txns rest : List Transaction) (txn : Transaction) → first_beyond (length file_head) txns ≡ Some txn → one_file (txns ++ rest) ≡ one_file txns
 one_file_stays [] rest txn is = absurd (cc)
 one_file_stays (first ∷ txns) rest txn is =
     ap (λ (bytes : List ℕ). file_head ++ bytes) (beyond_stays (length file_head) (first ∷ txns) rest txn is).1
@@ -254,7 +254,7 @@ output_of_more_goes_on rules rotation txns more front = record {
 }
 
 -- the transaction that ends the one file stays
-ends_stay : (old new : List Transaction) (front : IsFront old new) (over later : Option Transaction)
+pub ends_stay : (old new : List Transaction) (front : IsFront old new) (over later : Option Transaction)
     → ((txn : Transaction) → over ≡ Some txn → (later ≡ Some txn) × (new ≡ old)) → (beyond : Option Transaction) → first_beyond (length file_head) old ≡ beyond
     → (txn : Transaction) → some_or beyond over ≡ Some txn → (some_or (first_beyond (length file_head) new) later ≡ Some txn) × (one_file new ≡ one_file old)
 ends_stay old new front over later stays (Some other) is txn found =

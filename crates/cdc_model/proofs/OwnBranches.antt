@@ -25,7 +25,7 @@ use Rattle.cdc_model.proofs.Fronts.{front_flat_map, IsAboveEach, ascending_front
 
 -- ---- a branch and its key
 
-tied_by : (o : Ordering) → is_eq o ≡ true → o ≡ Equal
+pub tied_by : (o : Ordering) → is_eq o ≡ true → o ≡ Equal
 tied_by Less e = absurd (no_test e)
 tied_by Equal e = refl
 tied_by Greater e = absurd (no_test e)
@@ -33,7 +33,7 @@ tied_by Greater e = absurd (no_test e)
 pub has_is : (key : Key) (branch : CommittedBranch) → has_key key branch ≡ true → key ≡ branch.key
 has_is key branch e = same_key key branch.key (tied_by (key_order key branch.key) e)
 
-ties_itself : (key : Key) (o : Ordering) → key_order key key ≡ o → is_eq o ≡ true
+pub ties_itself : (key : Key) (o : Ordering) → key_order key key ≡ o → is_eq o ≡ true
 ties_itself key Less is = absurd (not_below_itself key is)
 ties_itself key Equal is = refl
 ties_itself key Greater is =
@@ -47,7 +47,7 @@ has_itself key branch is = ap (λ (k : Key). is_eq (key_order key k)) (sym is) �
 pub own_append : (key : Key) (front back : List CommittedBranch) → own_branches (front ++ back) key ≡ own_branches front key ++ own_branches back key
 own_append key front back = filter-append (has_key key) front back
 
-own_with : (key : Key) (branch : CommittedBranch) (branches : List CommittedBranch) (has : Bool) → has_key key branch ≡ has
+pub own_with : (key : Key) (branch : CommittedBranch) (branches : List CommittedBranch) (has : Bool) → has_key key branch ≡ has
     → own_branches (branch ∷ branches) key ≡ cond has (branch ∷ own_branches branches key) (own_branches branches key)
 own_with key branch branches has is = ap (λ (b : Bool). cond b (branch ∷ own_branches branches key) (own_branches branches key)) is
 
@@ -93,11 +93,11 @@ present_as branches others key same within =
 
 -- ---- marks and keys
 
-test_is : (b : Bool) → IsTrue b → b ≡ true
+pub test_is : (b : Bool) → IsTrue b → b ≡ true
 test_is true t = refl
 test_is false t = absurd (cc)
 
-is_test : (b : Bool) → b ≡ true → IsTrue b
+pub is_test : (b : Bool) → b ≡ true → IsTrue b
 is_test true e = refl
 is_test false e = absurd (no_test e)
 
@@ -112,12 +112,12 @@ unsettled_on less mark key h e = by (is_settled less key) refl
     by true is = absurd (no_test (sym e ∙ settled_on less mark key h is))
     by false is = is
 
-lesser_time : (a b : ℕ) (rest : Ordering) → a < b → ordering_then (nat_cmp a b) rest ≡ Less
+pub lesser_time : (a b : ℕ) (rest : Ordering) → a < b → ordering_then (nat_cmp a b) rest ≡ Less
 lesser_time a b rest h =
     let is : nat_cmp a b ≡ Less = grind (arith, nat_tests, h) in
     ap (λ (o : Ordering). ordering_then o rest) is
 
-same_time : (a b : ℕ) (rest : Ordering) → a ≡ b → rest ≡ Less → ordering_then (nat_cmp a b) rest ≡ Less
+pub same_time : (a b : ℕ) (rest : Ordering) → a ≡ b → rest ≡ Less → ordering_then (nat_cmp a b) rest ≡ Less
 same_time a b rest e is =
     let tie : nat_cmp a b ≡ Equal = grind (arith, nat_tests, e) in
     ap (λ (o : Ordering). ordering_then o rest) tie ∙ is
@@ -147,7 +147,7 @@ pub member_settled : (mark : ℕ) (branches : List CommittedBranch) (key : Key) 
     → Contains (settled_keys mark branches) key
 member_settled mark branches key settled within = (in_settled mark branches key).1 (is_test (is_settled mark key) settled, within)
 
-keys_among : (mark : ℕ) (branches others : List CommittedBranch) → SameUnder mark branches others
+pub keys_among : (mark : ℕ) (branches others : List CommittedBranch) → SameUnder mark branches others
     → (key : Key) → Contains (settled_keys mark branches) key → Contains (settled_keys mark others) key
 keys_among mark branches others same key within =
     let is = settled_member mark branches key within in
@@ -159,7 +159,7 @@ same_settled_keys mark branches others same =
     same_keys (settled_keys mark branches) (settled_keys mark others) (settled_sorted mark branches) (settled_sorted mark others)
     (keys_among mark branches others same) (keys_among mark others branches (λ key settled. sym (same key settled)))
 
-above_each : (mark : ℕ) (keys : List Key) (key : Key) → ((k : Key) → Contains keys k → is_settled mark k ≡ true) → is_settled mark key ≡ false
+pub above_each : (mark : ℕ) (keys : List Key) (key : Key) → ((k : Key) → Contains keys k → is_settled mark k ≡ true) → is_settled mark key ≡ false
     → IsAboveEach keys key
 above_each mark [] key settled not = tt
 above_each mark (first ∷ keys) key settled not = (
@@ -221,7 +221,7 @@ settled_branches_go_on less mark branches h =
 -- ---- the branches of settled branches
 
 -- those of a key among those of another
-own_of_own : (branches : List CommittedBranch) (key other : Key) → (key ≡ other → ⊥) → own_branches (own_branches branches other) key ≡ []
+pub own_of_own : (branches : List CommittedBranch) (key other : Key) → (key ≡ other → ⊥) → own_branches (own_branches branches other) key ≡ []
 own_of_own [] key other differs = refl
 own_of_own (branch ∷ branches) key other differs = by (has_key other branch) refl (own_of_own branches key other differs)
   where
@@ -235,7 +235,7 @@ own_of_own (branch ∷ branches) key other differs = by (has_key other branch) r
         ∙ own_with key branch (own_branches branches other) false (apart is (has_key key branch) refl) ∙ later
     by false is later = ap (λ (list : List CommittedBranch). own_branches list key) (own_with other branch branches false is) ∙ later
 
-own_of_same : (branches : List CommittedBranch) (key : Key) → own_branches (own_branches branches key) key ≡ own_branches branches key
+pub own_of_same : (branches : List CommittedBranch) (key : Key) → own_branches (own_branches branches key) key ≡ own_branches branches key
 own_of_same [] key = refl
 own_of_same (branch ∷ branches) key = by (has_key key branch) refl (own_of_same branches key)
   where
@@ -249,7 +249,7 @@ own_of_same (branch ∷ branches) key = by (has_key key branch) refl (own_of_sam
         ap (λ (list : List CommittedBranch). own_branches list key) (own_with key branch branches false is)
         ∙ later ∙ sym (own_with key branch branches false is)
 
-own_elsewhere : (branches : List CommittedBranch) (keys : List Key) (key : Key) → (Contains keys key → ⊥)
+pub own_elsewhere : (branches : List CommittedBranch) (keys : List Key) (key : Key) → (Contains keys key → ⊥)
     → own_branches (flat_map (own_branches branches) keys) key ≡ []
 own_elsewhere branches [] key never = refl
 own_elsewhere branches (first ∷ keys) key never =
@@ -258,7 +258,7 @@ own_elsewhere branches (first ∷ keys) key never =
     (own_of_own branches key first (λ is. never (subst (Contains (first ∷ keys)) (sym is) (contains_first first keys))))
     ∙ own_elsewhere branches keys key (λ within. never (contains_later first keys key within))
 
-own_once : (branches : List CommittedBranch) (keys : List Key) (key : Key) → IsStrictlySortedBy key_order keys → Contains keys key
+pub own_once : (branches : List CommittedBranch) (keys : List Key) (key : Key) → IsStrictlySortedBy key_order keys → Contains keys key
     → own_branches (flat_map (own_branches branches) keys) key ≡ own_branches branches key
 unfolding IsStrictlySortedBy
 own_once branches [] key sorted within = absurd (contains_none key within)

@@ -9,16 +9,16 @@ use Rattle.cdc_model.specs.Records.{Row, Transaction}
 use Rattle.cdc_model.specs.Print.{row_length, printed_event, laid, printed_bytes, printed_events, printed_length}
 use Rattle.cdc_model.specs.Output.{file_head, prints_at, file_with}
 
-length_low_first : (width number : ℕ) → length (low_first width number) ≡ width
+pub length_low_first : (width number : ℕ) → length (low_first width number) ≡ width
 unfolding low_first
 length_low_first zero number = refl
 length_low_first (suc width) number = ap suc (length_low_first width (number / 256))
 
-length_header : (header : Header) → length (header_bytes header) ≡ 19
+pub length_header : (header : Header) → length (header_bytes header) ≡ 19
 unfolding header_bytes
 length_header header = simp (length-append, length_low_first) refl
 
-length_printed_event : (at seconds : ℕ) (event : Row) → length (printed_event at seconds event) ≡ row_length event
+pub length_printed_event : (at seconds : ℕ) (event : Row) → length (printed_event at seconds event) ≡ row_length event
 length_printed_event at seconds event =
     let header : Header = record {
       seconds = seconds;
@@ -30,7 +30,7 @@ length_printed_event at seconds event =
     } in
     length-append (header_bytes header) (body_bytes event.1) ∙ ap (λ (n : ℕ). n + length (body_bytes event.1)) (length_header header)
 
-length_laid : (at seconds : ℕ) (events : List Row) → length (laid at seconds events) ≡ sum_by row_length events
+pub length_laid : (at seconds : ℕ) (events : List Row) → length (laid at seconds events) ≡ sum_by row_length events
 length_laid at seconds [] = refl
 length_laid at seconds (event ∷ events) =
     length-append (printed_event at seconds event) (laid (at + row_length event) seconds events)
@@ -43,10 +43,10 @@ length_printed rules txn at = length_laid at txn.seconds (printed_events rules t
 
 -- ---- one print more
 
-place_behind : (at first printed rest : ℕ) → first ≡ printed → (at + printed) + rest ≡ at + (first + rest)
+pub place_behind : (at first printed rest : ℕ) → first ≡ printed → (at + printed) + rest ≡ at + (first + rest)
 place_behind at first printed rest is = omega arith
 
-prints_more : (rules : List Rename) (at : ℕ) (txns : List Transaction) (txn : Transaction)
+pub prints_more : (rules : List Rename) (at : ℕ) (txns : List Transaction) (txn : Transaction)
     → prints_at rules at (txns ++ txn ∷ []) ≡ prints_at rules at txns ++ printed_bytes rules txn (at + length (prints_at rules at txns))
 prints_more rules at [] txn = append-nil (printed_bytes rules txn at) ∙ ap (printed_bytes rules txn) (sym (add-zero at))
 prints_more rules at (first ∷ txns) txn =

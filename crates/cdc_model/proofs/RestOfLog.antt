@@ -21,7 +21,7 @@ use Rattle.cdc_model.proofs.LogReading.{listed, closed, run_of_entries, same_ent
 
 -- ---- an event that ends an entry leads out
 
-ends_out : (progress : Progress) (seconds : ℕ) (sign : Sign) (kind : EntryKind) → made progress seconds sign ≡ Some kind → advance progress sign ≡ Out
+pub ends_out : (progress : Progress) (seconds : ℕ) (sign : Sign) (kind : EntryKind) → made progress seconds sign ≡ Some kind → advance progress sign ≡ Out
 ends_out Out seconds (BeatTime timestamp) kind h = refl
 ends_out Out seconds (XaRollbackText xid) kind h = refl
 ends_out Out seconds _ kind h = absurd (let e = h in cc)
@@ -37,16 +37,16 @@ ends_out (Local rows) seconds _ kind h = absurd (let e = h in cc)
 -- ---- the event that ended an entry
 
 -- an entry's last event among those of its file, and the run behind it
-record EndedBy (file : ℕ) (events : List PlacedEvent) (entry : LogEntry) (behind : List LogEntry) (end : Ending) : Type 0 where
-  front : List PlacedEvent
-  last : PlacedEvent
-  rest : List PlacedEvent
-  in_order : events ≡ front ++ last ∷ rest
-  place : entry.end ≡ record { file = file; at = last.end }
-  setting : entry.checksum ≡ last.checksum
-  run : outcome file Out (map signed rest) ≡ (behind, end)
+pub record EndedBy (file : ℕ) (events : List PlacedEvent) (entry : LogEntry) (behind : List LogEntry) (end : Ending) : Type 0 where
+  pub front : List PlacedEvent
+  pub last : PlacedEvent
+  pub rest : List PlacedEvent
+  pub in_order : events ≡ front ++ last ∷ rest
+  pub place : entry.end ≡ record { file = file; at = last.end }
+  pub setting : entry.checksum ≡ last.checksum
+  pub run : outcome file Out (map signed rest) ≡ (behind, end)
 
-ended_later : (file : ℕ) (event : PlacedEvent) (events : List PlacedEvent) (entry : LogEntry) (behind : List LogEntry) (end : Ending)
+pub ended_later : (file : ℕ) (event : PlacedEvent) (events : List PlacedEvent) (entry : LogEntry) (behind : List LogEntry) (end : Ending)
     → EndedBy file events entry behind end → EndedBy file (event ∷ events) entry behind end
 ended_later file event events entry behind end found = record {
   front = event ∷ found.front;
@@ -58,14 +58,14 @@ ended_later file event events entry behind end found = record {
   run = found.run;
 }
 
-first_of_list : {X : Type 0} (x y : X) (xs ys : List X) → x ∷ xs ≡ y ∷ ys → (x ≡ y) × (xs ≡ ys)
+pub first_of_list : {X : Type 0} (x y : X) (xs ys : List X) → x ∷ xs ≡ y ∷ ys → (x ≡ y) × (xs ≡ ys)
 first_of_list x y xs ys e = (cc, cc)
 
-pair_is : (o : List LogEntry × Ending) (list : List LogEntry) → o.0 ≡ list → o ≡ (list, o.1)
+pub pair_is : (o : List LogEntry × Ending) (list : List LogEntry) → o.0 ≡ list → o ≡ (list, o.1)
 pair_is (entries, end) list is = ap (λ (l : List LogEntry). (l, end)) is
 
 -- the event itself ends the entry
-ended_here : (file : ℕ) (progress : Progress) (event : PlacedEvent) (events : List PlacedEvent) (entry : LogEntry) (behind : List LogEntry) (kind : Option EntryKind)
+pub ended_here : (file : ℕ) (progress : Progress) (event : PlacedEvent) (events : List PlacedEvent) (entry : LogEntry) (behind : List LogEntry) (kind : Option EntryKind)
     → made progress (signed event).seconds (signed event).sign ≡ kind → option_map (entry_at file (signed event)) kind ≡ Some entry
     → (outcome file (advance progress (signed event).sign) (map signed events)).0 ≡ behind
     → EndedBy file (event ∷ events) entry behind (outcome file (advance progress (signed event).sign) (map signed events)).1
@@ -84,7 +84,7 @@ ended_here file progress event events entry behind (Some kind) is gives later =
           ∙ pair_is (outcome file (advance progress (signed event).sign) (map signed events)) behind later;
     }
 
-ended_by : (file : ℕ) (progress : Progress) (events : List PlacedEvent) (before : List LogEntry) (entry : LogEntry) (behind : List LogEntry)
+pub ended_by : (file : ℕ) (progress : Progress) (events : List PlacedEvent) (before : List LogEntry) (entry : LogEntry) (behind : List LogEntry)
     → (outcome file progress (map signed events)).0 ≡ before ++ entry ∷ behind
     → EndedBy file events entry behind (outcome file progress (map signed events)).1
 ended_by file progress [] before entry behind is = absurd (nothing_in before is)
@@ -127,19 +127,19 @@ ended_by file progress (event ∷ events) before entry behind is =
 
 -- ---- one file
 
-closed_is : (file : ℕ) (ended : Option (ℕ × FileFault)) (o : List LogEntry × Ending) → closed file ended o ≡ listed o.0 (fault_of file ended o.1)
+pub closed_is : (file : ℕ) (ended : Option (ℕ × FileFault)) (o : List LogEntry × Ending) → closed file ended o ≡ listed o.0 (fault_of file ended o.1)
 closed_is file ended (entries, Reached progress) = refl
 closed_is file ended (entries, Misplaced event fault) = refl
 
 -- events stand at their places or behind
-stands_behind : (first : Bool) (at checksum : ℕ) (bytes : List ℕ) (front : List PlacedEvent) (last : PlacedEvent) (rest : List PlacedEvent) (fault : Option (ℕ × FileFault))
+pub stands_behind : (first : Bool) (at checksum : ℕ) (bytes : List ℕ) (front : List PlacedEvent) (last : PlacedEvent) (rest : List PlacedEvent) (fault : Option (ℕ × FileFault))
     → AreEvents first at checksum bytes (front ++ last ∷ rest) fault → at ≤ last.end
 stands_behind first at checksum bytes [] last rest fault (piece, behind, is, whole, place, end, setting, more) = omega (arith, end)
 stands_behind first at checksum bytes (event ∷ front) last rest fault (piece, behind, is, whole, place, end, setting, more) =
     let later : event.end ≤ last.end = stands_behind false event.end event.checksum behind front last rest fault more in
     omega (arith, end, later)
 
-behind_magic : (bytes : List ℕ) (front : List PlacedEvent) (last : PlacedEvent) (rest : List PlacedEvent) (fault : Option (ℕ × FileFault))
+pub behind_magic : (bytes : List ℕ) (front : List PlacedEvent) (last : PlacedEvent) (rest : List PlacedEvent) (fault : Option (ℕ × FileFault))
     → AreFileEvents bytes (front ++ last ∷ rest) fault → 4 ≤ last.end
 behind_magic bytes front last rest fault (inl (short, none, no_fault)) = absurd (some_in front none)
   where
@@ -154,7 +154,7 @@ behind_magic bytes front last rest fault (inr (inl (long, other, none, faulty)))
 behind_magic bytes front last rest fault (inr (inr (more, is, are))) = stands_behind true 4 0 more front last rest fault are
 
 -- a place behind byte 0
-from_place : (at checksum : ℕ) (bytes : List ℕ) (events : List PlacedEvent) (fault : Option (ℕ × FileFault)) → 1 ≤ at
+pub from_place : (at checksum : ℕ) (bytes : List ℕ) (events : List PlacedEvent) (fault : Option (ℕ × FileFault)) → 1 ≤ at
     → AreEvents false at checksum bytes events fault → AreEventsFrom at checksum bytes events fault
 from_place zero checksum bytes events fault h are = absurd (omega (arith, h))
 from_place (suc at) checksum bytes events fault h are = are
@@ -212,11 +212,11 @@ module _ (rest_is_read : RestIsRead) where
 -- ---- a log
 
 -- an element of a list in two parts is in the first or in the second
-data Splits (before : List LogEntry) (entry : LogEntry) (behind own later : List LogEntry) : Type 0 where
+pub data Splits (before : List LogEntry) (entry : LogEntry) (behind own later : List LogEntry) : Type 0 where
   in_own : (rest : List LogEntry) → own ≡ before ++ entry ∷ rest → behind ≡ rest ++ later → Splits before entry behind own later
   in_later : (front : List LogEntry) → before ≡ own ++ front → later ≡ front ++ entry ∷ behind → Splits before entry behind own later
 
-splits : (before : List LogEntry) (entry : LogEntry) (behind own later : List LogEntry) → before ++ entry ∷ behind ≡ own ++ later → Splits before entry behind own later
+pub splits : (before : List LogEntry) (entry : LogEntry) (behind own later : List LogEntry) → before ++ entry ∷ behind ≡ own ++ later → Splits before entry behind own later
 splits before entry behind [] later e = in_later before refl (sym e)
 splits [] entry behind (first ∷ own) later e =
     let parts = first_of_list entry first behind (own ++ later) e in
@@ -234,10 +234,10 @@ record RestOfFiles (file : ℕ) (files : List (List ℕ)) (entry : LogEntry) (be
   least : file ≤ entry.end.file
   read : AreEntriesOn entry.end.file entry.end.at entry.checksum (drop (entry.end.file - file) files) behind fault
 
-drop_none : (n : ℕ) (bytes : List ℕ) (files : List (List ℕ)) → n ≡ 0 → drop n (bytes ∷ files) ≡ bytes ∷ files
+pub drop_none : (n : ℕ) (bytes : List ℕ) (files : List (List ℕ)) → n ≡ 0 → drop n (bytes ∷ files) ≡ bytes ∷ files
 drop_none n bytes files is = ap (λ (k : ℕ). drop k (bytes ∷ files)) is
 
-drop_next : (n m : ℕ) (bytes : List ℕ) (files : List (List ℕ)) → n ≡ suc m → drop n (bytes ∷ files) ≡ drop m files
+pub drop_next : (n m : ℕ) (bytes : List ℕ) (files : List (List ℕ)) → n ≡ suc m → drop n (bytes ∷ files) ≡ drop m files
 drop_next n m bytes files is = ap (λ (k : ℕ). drop k (bytes ∷ files)) is
 
 module _ (rest_is_read : RestIsRead) where

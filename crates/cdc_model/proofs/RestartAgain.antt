@@ -23,10 +23,10 @@ use Rattle.cdc_model.proofs.RestartRest.{begun_before, take_past}
 -- ---- open branches, read whole and from a number on
 
 -- the number of a branch that is kept
-late_number : (from : ℕ) (o : OpenBranch) → from ≤ o.entry → (forget from o).entry ≡ o.entry
+pub late_number : (from : ℕ) (o : OpenBranch) → from ≤ o.entry → (forget from o).entry ≡ o.entry
 late_number from o h = ap (λ (b : Bool). if b then o.entry else 0) (le-leb from o.entry h)
 
-number_late : (from : ℕ) (o : OpenBranch) → 1 ≤ from → from ≤ (forget from o).entry → from ≤ o.entry
+pub number_late : (from : ℕ) (o : OpenBranch) → 1 ≤ from → from ≤ (forget from o).entry → from ≤ o.entry
 number_late from o positive h = by (leb from o.entry) refl
   where
     by : (b : Bool) → leb from o.entry ≡ b → from ≤ o.entry

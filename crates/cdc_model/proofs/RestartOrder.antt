@@ -40,7 +40,7 @@ is_above last branch = is_gt (key_order branch.key last)
 abbrev above_last : Key → List CommittedBranch → List CommittedBranch
 above_last last branches = filter (is_above last) branches
 
-greater : (a b : Key) → is_gt (key_order a b) ≡ true → key_order b a ≡ Less
+pub greater : (a b : Key) → is_gt (key_order a b) ≡ true → key_order b a ≡ Less
 greater a b e = by (key_order a b) refl e
   where
     by : (o : Ordering) → key_order a b ≡ o → is_gt o ≡ true → key_order b a ≡ Less
@@ -48,7 +48,7 @@ greater a b e = by (key_order a b) refl e
     by Equal is h = absurd (no_test h)
     by Greater is h = above a b is
 
-is_greater : (a b : Key) → key_order b a ≡ Less → is_gt (key_order a b) ≡ true
+pub is_greater : (a b : Key) → key_order b a ≡ Less → is_gt (key_order a b) ≡ true
 is_greater a b e = by (key_order a b) refl
   where
     by : (o : Ordering) → key_order a b ≡ o → is_gt o ≡ true
@@ -60,14 +60,14 @@ abbrev At : Key → Key → Type 0
 At low key = (low ≡ key) ⊎ (key_order low key ≡ Less)
 
 -- what is above a key is above each lesser one
-above_both : (low key other : Key) → At low key → is_gt (key_order other key) ≡ true → is_gt (key_order other low) ≡ true
+pub above_both : (low key other : Key) → At low key → is_gt (key_order other key) ≡ true → is_gt (key_order other low) ≡ true
 above_both low key other (inl is) e = subst (λ (k : Key). is_gt (key_order other k) ≡ true) (sym is) e
 above_both low key other (inr less) e = is_greater other low (key_order_total.trans low key other less (greater other key e))
 
 -- ---- new branches, by their keys
 
 -- those above a key are those above a lesser one whose keys are above it
-new_above : (low key : Key) (start : Start) (begun : List Begun) → At low key → new_branches key start begun ≡ above_last key (new_branches low start begun)
+pub new_above : (low key : Key) (start : Start) (begun : List Begun) → At low key → new_branches key start begun ≡ above_last key (new_branches low start begun)
 new_above low key start [] at = refl
 new_above low key start (b ∷ begun) at =
     by (leb start.entry b.0) (is_gt (key_order b.1.key key)) (is_gt (key_order b.1.key low)) refl (above_both low key b.1.key at) (new_above low key start begun at)
@@ -95,7 +95,7 @@ new_above low key start (b ∷ begun) at =
         later ∙ sym (ap (λ (t : Bool). cond t (b.1 ∷ above_last key (new_branches low start begun)) (above_last key (new_branches low start begun))) is)
     by true false false is more later = later
 
-all_above : (low key : Key) (number : ℕ) (logs : List NodeLog) → At low key
+pub all_above : (low key : Key) (number : ℕ) (logs : List NodeLog) → At low key
     → flat_map (node_branches key) (enumerate_from number logs) ≡ above_last key (flat_map (node_branches low) (enumerate_from number logs))
 all_above low key number [] at = refl
 all_above low key number (log ∷ logs) at =
@@ -105,7 +105,7 @@ all_above low key number (log ∷ logs) at =
 
 -- ---- members above a key
 
-above_member : (last : Key) (branches : List CommittedBranch) (key : Key) → Contains (keys_of (above_last last branches)) key
+pub above_member : (last : Key) (branches : List CommittedBranch) (key : Key) → Contains (keys_of (above_last last branches)) key
     → Contains (keys_of branches) key × (is_gt (key_order key last) ≡ true)
 above_member last [] key within = absurd (contains_none key within)
 above_member last (branch ∷ branches) key within = by (is_above last branch) refl within (above_member last branches key)
@@ -124,7 +124,7 @@ above_member last (branch ∷ branches) key within = by (is_above last branch) r
         ]
     by false is member later = let found = later member in (contains_later branch.key (keys_of branches) key found.0, found.1)
 
-member_above : (last : Key) (branches : List CommittedBranch) (key : Key) → Contains (keys_of branches) key → is_gt (key_order key last) ≡ true
+pub member_above : (last : Key) (branches : List CommittedBranch) (key : Key) → Contains (keys_of branches) key → is_gt (key_order key last) ≡ true
     → Contains (keys_of (above_last last branches)) key
 member_above last [] key within over = absurd (contains_none key within)
 member_above last (branch ∷ branches) key within over =
@@ -139,7 +139,7 @@ member_above last (branch ∷ branches) key within over =
     by false is (inr member) later = later member
 
 -- the branches of a key above are there
-own_above : (last key : Key) (branches : List CommittedBranch) → is_gt (key_order key last) ≡ true → own_branches (above_last last branches) key ≡ own_branches branches key
+pub own_above : (last key : Key) (branches : List CommittedBranch) → is_gt (key_order key last) ≡ true → own_branches (above_last last branches) key ≡ own_branches branches key
 own_above last key [] over = refl
 own_above last key (branch ∷ branches) over = by (is_above last branch) (has_key key branch) refl refl (own_above last key branches over)
   where
@@ -162,14 +162,14 @@ nth_or low zero keys = low
 nth_or low (suc count) [] = low
 nth_or low (suc count) (key ∷ keys) = nth_or key count keys
 
-sorted_dropped : (count : ℕ) (keys : List Key) → IsStrictlySortedBy key_order keys → IsStrictlySortedBy key_order (drop count keys)
+pub sorted_dropped : (count : ℕ) (keys : List Key) → IsStrictlySortedBy key_order keys → IsStrictlySortedBy key_order (drop count keys)
 unfolding IsStrictlySortedBy
 sorted_dropped zero keys sorted = sorted
 sorted_dropped (suc count) [] sorted = tt
 sorted_dropped (suc count) (key ∷ keys) (below, sorted) = sorted_dropped count keys sorted
 
 -- a key behind the n-th is above it
-behind_is_above : (low : Key) (count : ℕ) (keys : List Key) (key : Key) → IsBelowAll low keys → IsStrictlySortedBy key_order keys → count ≤ length keys
+pub behind_is_above : (low : Key) (count : ℕ) (keys : List Key) (key : Key) → IsBelowAll low keys → IsStrictlySortedBy key_order keys → count ≤ length keys
     → Contains (drop count keys) key → Contains keys key × (key_order (nth_or low count keys) key ≡ Less)
 unfolding IsStrictlySortedBy
 behind_is_above low zero keys key under sorted h within = (within, below_member low keys key under within)
@@ -179,7 +179,7 @@ behind_is_above low (suc count) (first ∷ keys) key under (below, sorted) h wit
     (contains_later first keys key found.0, found.1)
 
 -- the n-th key is the first one or above it
-at_least : (low : Key) (count : ℕ) (keys : List Key) → IsBelowAll low keys → IsStrictlySortedBy key_order keys → At low (nth_or low count keys)
+pub at_least : (low : Key) (count : ℕ) (keys : List Key) → IsBelowAll low keys → IsStrictlySortedBy key_order keys → At low (nth_or low count keys)
 unfolding IsStrictlySortedBy
 at_least low zero keys under sorted = inl refl
 at_least low (suc count) [] under sorted = inl refl
@@ -189,7 +189,7 @@ at_least low (suc count) (next ∷ keys) (here, under) (below, sorted) =
       | inr less ↦ inr (key_order_total.trans low next (nth_or next count keys) here less)
     ]
 
-not_above : (low : Key) (count : ℕ) (keys : List Key) → IsBelowAll low keys → IsStrictlySortedBy key_order keys → key_order (nth_or low count keys) low ≡ Less → ⊥
+pub not_above : (low : Key) (count : ℕ) (keys : List Key) → IsBelowAll low keys → IsStrictlySortedBy key_order keys → key_order (nth_or low count keys) low ≡ Less → ⊥
 not_above low count keys under sorted over =
     elim (at_least low count keys under sorted) [
       | inl is ↦ not_below_itself low (subst (λ (k : Key). key_order k low ≡ Less) (sym is) over)
@@ -197,7 +197,7 @@ not_above low count keys under sorted over =
     ]
 
 -- and one that is above it stands behind it
-above_is_behind : (low : Key) (count : ℕ) (keys : List Key) (key : Key) → IsBelowAll low keys → IsStrictlySortedBy key_order keys → count ≤ length keys
+pub above_is_behind : (low : Key) (count : ℕ) (keys : List Key) (key : Key) → IsBelowAll low keys → IsStrictlySortedBy key_order keys → count ≤ length keys
     → Contains keys key → key_order (nth_or low count keys) key ≡ Less → Contains (drop count keys) key
 unfolding IsStrictlySortedBy
 above_is_behind low zero keys key under sorted h within over = within
@@ -210,11 +210,11 @@ above_is_behind low (suc count) (first ∷ keys) key (here, under) (below, sorte
 
 -- ---- the order behind the n-th key
 
-below_from : (low : Key) (keys : List Key) → ((key : Key) → Contains keys key → key_order low key ≡ Less) → IsBelowAll low keys
+pub below_from : (low : Key) (keys : List Key) → ((key : Key) → Contains keys key → key_order low key ≡ Less) → IsBelowAll low keys
 below_from low [] each = tt
 below_from low (key ∷ keys) each = (each key (contains_first key keys), below_from low keys (λ k within. each k (contains_later key keys k within)))
 
-transactions_dropped : (branches : List CommittedBranch) (number count : ℕ) (keys : List Key)
+pub transactions_dropped : (branches : List CommittedBranch) (number count : ℕ) (keys : List Key)
     → drop count (transactions_of branches number keys) ≡ transactions_of branches (number + count) (drop count keys)
 transactions_dropped branches number zero keys = ap (λ (n : ℕ). transactions_of branches n keys) (omega arith)
 transactions_dropped branches number (suc count) [] = refl
@@ -254,7 +254,7 @@ module _ (low : Key) (mark : ℕ) (branches : List CommittedBranch) (all : (key 
 
 -- ---- up to the first that passes a test
 
-before_dropped : {X : Type 0} (test : X → Bool) (count : ℕ) (xs : List X) → count ≤ length (before_first test xs)
+pub before_dropped : {X : Type 0} (test : X → Bool) (count : ℕ) (xs : List X) → count ≤ length (before_first test xs)
     → (before_first test (drop count xs) ≡ drop count (before_first test xs)) × (find test (drop count xs) ≡ find test xs)
 before_dropped test zero xs h = (refl, refl)
 before_dropped test (suc count) [] h = (refl, refl)
@@ -271,22 +271,22 @@ before_dropped {X} test (suc count) (x ∷ xs) h = by (test x) refl (before_drop
 
 -- ---- the key of the n-th transaction
 
-nth_is : (low : Key) (count : ℕ) (txn : Transaction) (txns : List Transaction) → count ≤ length txns → key_or_first (slice_get (txn ∷ txns) count) ≡ nth_or txn.key count (keys_in txns)
+pub nth_is : (low : Key) (count : ℕ) (txn : Transaction) (txns : List Transaction) → count ≤ length txns → key_or_first (slice_get (txn ∷ txns) count) ≡ nth_or txn.key count (keys_in txns)
 nth_is low zero txn txns h = refl
 nth_is low (suc count) txn [] h = absurd (omega (arith, h))
 nth_is low (suc count) txn (next ∷ txns) h = nth_is low count next txns (omega (arith, h))
 
-key_is_nth : (count : ℕ) (txns : List Transaction) → count ≤ length txns → key_at txns count ≡ nth_or first_key count (keys_in txns)
+pub key_is_nth : (count : ℕ) (txns : List Transaction) → count ≤ length txns → key_at txns count ≡ nth_or first_key count (keys_in txns)
 key_is_nth zero txns h = refl
 key_is_nth (suc count) [] h = absurd (omega (arith, h))
 key_is_nth (suc count) (txn ∷ txns) h = nth_is first_key count txn txns (omega (arith, h))
 
-nth_of_front : (low : Key) (count : ℕ) (txns rest : List Transaction) → count ≤ length txns → nth_or low count (keys_in txns) ≡ nth_or low count (keys_in (txns ++ rest))
+pub nth_of_front : (low : Key) (count : ℕ) (txns rest : List Transaction) → count ≤ length txns → nth_or low count (keys_in txns) ≡ nth_or low count (keys_in (txns ++ rest))
 nth_of_front low zero txns rest h = refl
 nth_of_front low (suc count) [] rest h = absurd (omega (arith, h))
 nth_of_front low (suc count) (txn ∷ txns) rest h = nth_of_front txn.key count txns rest (omega (arith, h))
 
-before_is_front : {X : Type 0} (test : X → Bool) (xs : List X) → IsFront (before_first test xs) xs
+pub before_is_front : {X : Type 0} (test : X → Bool) (xs : List X) → IsFront (before_first test xs) xs
 before_is_front test [] = record { rest = []; is = refl }
 before_is_front {X} test (x ∷ xs) = by (test x) refl (before_is_front test xs)
   where
@@ -298,7 +298,7 @@ before_is_front {X} test (x ∷ xs) = by (test x) refl (before_is_front test xs)
 
 -- ---- the logs of all nodes
 
-one_resumed : (last : Key) (node : ℕ) (old new : NodeLog) (point : RestartPoint) → old.start ≡ start_at first_point → LogGrows old new
+pub one_resumed : (last : Key) (node : ℕ) (old new : NodeLog) (point : RestartPoint) → old.start ≡ start_at first_point → LogGrows old new
     → IsRestartPoint last first_point node (sound_entries old.start old.entries) point → ReadsTheRest last node new (log_behind first_point point new.entries)
 one_resumed last node old new point begins grows is =
     let new_begins : new.start ≡ start_at first_point = grows.same_start ∙ begins in
@@ -311,16 +311,16 @@ one_resumed last node old new point begins grows is =
     (restart_reads_the_rest last first_point point node old.entries new.entries (omega arith) front point_is)
 
 -- the branches and marks of all nodes that are read from restart points
-record ReadAlike (last : Key) (number : ℕ) (resumed news : List NodeLog) : Type 0 where
-  branches : flat_map (node_branches last) (enumerate_from number resumed) ≡ flat_map (node_branches last) (enumerate_from number news)
-  marks : map (λ log. node_low_water_mark (reached log)) resumed ≡ map (λ log. node_low_water_mark (reached log)) news
+pub record ReadAlike (last : Key) (number : ℕ) (resumed news : List NodeLog) : Type 0 where
+  pub branches : flat_map (node_branches last) (enumerate_from number resumed) ≡ flat_map (node_branches last) (enumerate_from number news)
+  pub marks : map (λ log. node_low_water_mark (reached log)) resumed ≡ map (λ log. node_low_water_mark (reached log)) news
 
 abbrev PointsFrom : Key → ℕ → List NodeLog → List RestartPoint → Type 0
 PointsFrom last number logs points =
     AllZip (λ (node : ℕ × NodeLog) (point : RestartPoint). IsRestartPoint last first_point node.0 (sound_entries node.1.start node.1.entries) point)
     (enumerate_from number logs) points
 
-read_alike : (last : Key) (number : ℕ) (olds news : List NodeLog) (points : List RestartPoint) → AreWhole olds → LogsGrow olds news → PointsFrom last number olds points
+pub read_alike : (last : Key) (number : ℕ) (olds news : List NodeLog) (points : List RestartPoint) → AreWhole olds → LogsGrow olds news → PointsFrom last number olds points
     → ReadAlike last number (logs_behind points news) news
 read_alike last number [] [] [] begin grow are = record { branches = refl; marks = refl }
 read_alike last number [] [] (point ∷ points) begin grow are = absurd are

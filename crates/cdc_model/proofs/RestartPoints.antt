@@ -31,7 +31,7 @@ use Rattle.cdc_model.proofs.Keeping.{all_next, all_weaker}
 
 -- ---- keys that are at most another
 
-at_most_by : (a b c : Key) (first second third : Ordering) → key_order a b ≡ first → key_order b c ≡ second → key_order a c ≡ third
+pub at_most_by : (a b c : Key) (first second third : Ordering) → key_order a b ≡ first → key_order b c ≡ second → key_order a c ≡ third
     → is_gt first ≡ false → is_gt second ≡ false → is_gt third ≡ false
 at_most_by a b c first second Less p q r low high = refl
 at_most_by a b c first second Equal p q r low high = refl
@@ -76,7 +76,7 @@ found_all P test (first ∷ rest) branch (here, all) found = by (test first) (fo
     by true later is = let same : first ≡ branch = cc in subst P same here
     by false later is = later is
 
-committed_all : (P : ℕ → Type 0) (key : Key) (number seconds : ℕ) (opened : Option OpenBranch) → ((branch : OpenBranch) → opened ≡ Some branch → P branch.entry)
+pub committed_all : (P : ℕ → Type 0) (key : Key) (number seconds : ℕ) (opened : Option OpenBranch) → ((branch : OpenBranch) → opened ≡ Some branch → P branch.entry)
     → AllByRecursion (λ (b : Begun). P b.0) (committed key number seconds opened)
 committed_all P key number seconds None all = tt
 committed_all P key number seconds (Some branch) all = (all branch refl, tt)
@@ -95,7 +95,7 @@ given_all P node (Beat timestamp) s here all = tt
 
 -- ---- a sound number stays sound
 
-open_from : (first number : ℕ) (start : Start) (new history : List LogEntry) → number ≤ (left_by start history).entry
+pub open_from : (first number : ℕ) (start : Start) (new history : List LogEntry) → number ≤ (left_by start history).entry
     → OpenFrom first number (left_by start history).opened → OpenFrom first number (left_by start (new ++ history)).opened
 open_from first number start [] history h all = all
 open_from first number start (entry ∷ new) history h all =
@@ -111,7 +111,7 @@ open_from first number start (entry ∷ new) history h all =
 abbrev pub BegunBelow : ℕ → ℕ → Key → List Begun → Type 0
 BegunBelow first number last begun = AllByRecursion (λ (b : Begun). first ≤ b.0 → b.0 < number → IsAtMost b.1.key last) begun
 
-begun_below : (first number node : ℕ) (last : Key) (start : Start) (new history : List LogEntry) → number ≤ (left_by start history).entry
+pub begun_below : (first number node : ℕ) (last : Key) (start : Start) (new history : List LogEntry) → number ≤ (left_by start history).entry
     → OpenFrom first number (left_by start history).opened → BegunBelow first number last (begun_branches start node history)
     → BegunBelow first number last (begun_branches start node (new ++ history))
 begun_below first number node last start [] history h all below = below
@@ -141,7 +141,7 @@ entry_stays last later start node new history number more sound =
 
 -- ---- the start
 
-all_trivial : {X : Type 0} (P : X → Type 0) → ((x : X) → P x) → (xs : List X) → AllByRecursion P xs
+pub all_trivial : {X : Type 0} (P : X → Type 0) → ((x : X) → P x) → (xs : List X) → AllByRecursion P xs
 all_trivial P each [] = tt
 all_trivial P each (x ∷ xs) = (each x, all_trivial P each xs)
 
@@ -182,13 +182,13 @@ restart_point_stays last later from node entries more point low front is =
 
 -- ---- the latest
 
-at_most_least : (number most : ℕ) (numbers : List ℕ) → number ≤ least most numbers → (number ≤ most) × AllByRecursion (λ (n : ℕ). number ≤ n) numbers
+pub at_most_least : (number most : ℕ) (numbers : List ℕ) → number ≤ least most numbers → (number ≤ most) × AllByRecursion (λ (n : ℕ). number ≤ n) numbers
 at_most_least number most [] h = (h, tt)
 at_most_least number most (n ∷ numbers) h =
     let rest = at_most_least number (min most n) numbers h in
     (omega (arith, rest.0), (omega (arith, rest.0), rest.1))
 
-least_at_most : (number most : ℕ) (numbers : List ℕ) → number ≤ most → AllByRecursion (λ (n : ℕ). number ≤ n) numbers → number ≤ least most numbers
+pub least_at_most : (number most : ℕ) (numbers : List ℕ) → number ≤ most → AllByRecursion (λ (n : ℕ). number ≤ n) numbers → number ≤ least most numbers
 least_at_most number most [] h all = h
 least_at_most number most (n ∷ numbers) h (here, all) = least_at_most number (min most n) numbers (omega (arith, h, here)) all
 
@@ -196,7 +196,7 @@ least_at_most number most (n ∷ numbers) h (here, all) = least_at_most number (
 abbrev numbers_where : {X : Type 0} → (X → Bool) → (X → ℕ) → List X → List ℕ
 numbers_where test number_of xs = map number_of (filter test xs)
 
-where_passes : {X : Type 0} (test : X → Bool) (number_of : X → ℕ) (P : X → Type 0) (number : ℕ) → ((x : X) → test x ≡ true → P x → number ≤ number_of x)
+pub where_passes : {X : Type 0} (test : X → Bool) (number_of : X → ℕ) (P : X → Type 0) (number : ℕ) → ((x : X) → test x ≡ true → P x → number ≤ number_of x)
     → (xs : List X) → AllByRecursion P xs → AllByRecursion (λ (n : ℕ). number ≤ n) (numbers_where test number_of xs)
 where_passes test number_of P number least [] all = tt
 where_passes {X} test number_of P number least (x ∷ xs) (here, all) = by (test x) refl (where_passes test number_of P number least xs all)
@@ -206,7 +206,7 @@ where_passes {X} test number_of P number least (x ∷ xs) (here, all) = by (test
     by true is later = (least x is here, later)
     by false is later = later
 
-passes_where : {X : Type 0} (test : X → Bool) (number_of : X → ℕ) (P : X → Type 0) (number : ℕ) → ((x : X) → test x ≡ false → P x) → ((x : X) → number ≤ number_of x → P x)
+pub passes_where : {X : Type 0} (test : X → Bool) (number_of : X → ℕ) (P : X → Type 0) (number : ℕ) → ((x : X) → test x ≡ false → P x) → ((x : X) → number ≤ number_of x → P x)
     → (xs : List X) → AllByRecursion (λ (n : ℕ). number ≤ n) (numbers_where test number_of xs) → AllByRecursion P xs
 passes_where test number_of P number fails holds [] all = tt
 passes_where {X} test number_of P number fails holds (x ∷ xs) all = by (test x) refl all (passes_where test number_of P number fails holds xs)
@@ -281,7 +281,7 @@ sound_numbers_end last start node history number = (
 )
 
 -- the point of a sound number has that number
-numbered : (last : Key) (from : RestartPoint) (node : ℕ) (entries : List LogEntry) (number : ℕ) → IsRestartEntry last (start_at from) node (reverse entries) number
+pub numbered : (last : Key) (from : RestartPoint) (node : ℕ) (entries : List LogEntry) (number : ℕ) → IsRestartEntry last (start_at from) node (reverse entries) number
     → (point_before from entries number).entry ≡ number
 numbered last from node entries number sound =
     let size : length (take (number - from.entry) entries) ≡ number - from.entry =
@@ -295,7 +295,7 @@ numbered last from node entries number sound =
     behind [] = omega arith
     behind (entry ∷ earlier) = numbers_count (start_at from) (entry ∷ earlier)
 
-latest_is : (last : Key) (from : RestartPoint) (node : ℕ) (entries : List LogEntry) → IsLatestPoint last from node entries (latest_point last from node entries)
+pub latest_is : (last : Key) (from : RestartPoint) (node : ℕ) (entries : List LogEntry) → IsLatestPoint last from node entries (latest_point last from node entries)
 latest_is last from node entries =
     let start = start_at from in
     let history = reverse entries in
@@ -330,20 +330,20 @@ latest_never_falls last later from node entries more point other low front is af
 
 -- ---- a point's start
 
-all_held : (held : List (Xid × ℕ)) → AllByRecursion IsHeld (map held_open held)
+pub all_held : (held : List (Xid × ℕ)) → AllByRecursion IsHeld (map held_open held)
 all_held [] = tt
 all_held (first ∷ held) = (record { unnumbered = refl; rowless = refl }, all_held held)
 
-below_held : (xid : Xid) (opened : List OpenBranch) → AllByRecursion (λ (other : OpenBranch). IsXidBelow xid other.xid) opened
+pub below_held : (xid : Xid) (opened : List OpenBranch) → AllByRecursion (λ (other : OpenBranch). IsXidBelow xid other.xid) opened
     → AllByRecursion (λ (other : OpenBranch). IsXidBelow xid other.xid) (map held_open (map held_of opened))
 below_held xid [] all = tt
 below_held xid (o ∷ opened) (here, all) = (here, below_held xid opened all)
 
-ascend_held : (opened : List OpenBranch) → AscendByXid opened → AscendByXid (map held_open (map held_of opened))
+pub ascend_held : (opened : List OpenBranch) → AscendByXid opened → AscendByXid (map held_open (map held_of opened))
 ascend_held [] ascend = tt
 ascend_held (o ∷ opened) (below, ascend) = (below_held o.xid opened below, ascend_held opened ascend)
 
-behind_ascends : (from : RestartPoint) (history : List LogEntry) → AscendByXid (start_at from).opened → AscendByXid (start_at (point_behind from history)).opened
+pub behind_ascends : (from : RestartPoint) (history : List LogEntry) → AscendByXid (start_at from).opened → AscendByXid (start_at (point_behind from history)).opened
 behind_ascends from [] ascend = ascend
 behind_ascends from (entry ∷ earlier) ascend =
     ascend_held (left_by (start_at from) (entry ∷ earlier)).opened (open_branches_ascend (start_at from) (entry ∷ earlier) ascend)

@@ -41,14 +41,14 @@ use Rattle.cdc_model.proofs.RestartPoints.{at_most_itself, BegunBelow, given_all
 abbrev new_from : ℕ → Key → List Begun → List CommittedBranch
 new_from first last begun = map (λ (b : Begun). b.1) (filter (λ (b : Begun). leb first b.0 && is_gt (key_order b.1.key last)) begun)
 
-new_from_append : (first : ℕ) (last : Key) (front back : List Begun) → new_from first last (front ++ back) ≡ new_from first last front ++ new_from first last back
+pub new_from_append : (first : ℕ) (last : Key) (front back : List Begun) → new_from first last (front ++ back) ≡ new_from first last front ++ new_from first last back
 new_from_append first last front back =
     ap (λ (list : List Begun). map (λ (b : Begun). b.1) list) (filter-append (λ (b : Begun). leb first b.0 && is_gt (key_order b.1.key last)) front back)
     ∙ map-append (λ (b : Begun). b.1) (filter (λ (b : Begun). leb first b.0 && is_gt (key_order b.1.key last)) front)
     (filter (λ (b : Begun). leb first b.0 && is_gt (key_order b.1.key last)) back)
 
 -- one branch, by its tests
-one_by : (first : ℕ) (last : Key) (b : Begun) (here over : Bool) → leb first b.0 ≡ here → is_gt (key_order b.1.key last) ≡ over
+pub one_by : (first : ℕ) (last : Key) (b : Begun) (here over : Bool) → leb first b.0 ≡ here → is_gt (key_order b.1.key last) ≡ over
     → new_from first last (b ∷ []) ≡ cond (here && over) (b.1 ∷ []) []
 one_by first last b here over p q =
     ap (λ (t : Bool). map (λ (x : Begun). x.1) (cond (t && is_gt (key_order b.1.key last)) (b ∷ []) [])) p
@@ -59,10 +59,10 @@ one_by first last b here over p q =
     by true = refl
     by false = refl
 
-old_one : (first : ℕ) (last : Key) (b : Begun) → leb first b.0 ≡ false → new_from first last (b ∷ []) ≡ []
+pub old_one : (first : ℕ) (last : Key) (b : Begun) → leb first b.0 ≡ false → new_from first last (b ∷ []) ≡ []
 old_one first last b is = one_by first last b false (is_gt (key_order b.1.key last)) is refl
 
-low_one : (first : ℕ) (last : Key) (b : Begun) → IsAtMost b.1.key last → new_from first last (b ∷ []) ≡ []
+pub low_one : (first : ℕ) (last : Key) (b : Begun) → IsAtMost b.1.key last → new_from first last (b ∷ []) ≡ []
 low_one first last b low = one_by first last b (leb first b.0) false refl low ∙ by (leb first b.0)
   where
     by : (t : Bool) → cond (t && false) (b.1 ∷ []) [] ≡ []
@@ -70,21 +70,21 @@ low_one first last b low = one_by first last b (leb first b.0) false refl low �
     by false = refl
 
 -- two branches from their numbers on are new alike
-same_one : (first other : ℕ) (last : Key) (b c : Begun) → first ≤ b.0 → other ≤ c.0 → b.1 ≡ c.1 → new_from first last (b ∷ []) ≡ new_from other last (c ∷ [])
+pub same_one : (first other : ℕ) (last : Key) (b c : Begun) → first ≤ b.0 → other ≤ c.0 → b.1 ≡ c.1 → new_from first last (b ∷ []) ≡ new_from other last (c ∷ [])
 same_one first other last b c p q is =
     one_by first last b true (is_gt (key_order b.1.key last)) (le-leb first b.0 p) refl
     ∙ ap (λ (branch : CommittedBranch). cond (is_gt (key_order branch.key last)) (branch ∷ []) []) is
     ∙ sym (one_by other last c true (is_gt (key_order c.1.key last)) (le-leb other c.0 q) refl)
 
 -- an old branch is dropped, whether it began before the first number or has a low key
-dropped_one : (first number : ℕ) (last : Key) (b : Begun) → b.0 < number → (first ≤ b.0 → b.0 < number → IsAtMost b.1.key last) → new_from first last (b ∷ []) ≡ []
+pub dropped_one : (first number : ℕ) (last : Key) (b : Begun) → b.0 < number → (first ≤ b.0 → b.0 < number → IsAtMost b.1.key last) → new_from first last (b ∷ []) ≡ []
 dropped_one first number last b under low =
     elim (cases_lt b.0 first) [
       | inl less ↦ old_one first last b (lt-leb first b.0 less)
       | inr more ↦ low_one first last b (low more under)
     ]
 
-all_dropped : (first number : ℕ) (last : Key) (begun : List Begun) → AllByRecursion (λ (b : Begun). b.0 < number) begun → BegunBelow first number last begun
+pub all_dropped : (first number : ℕ) (last : Key) (begun : List Begun) → AllByRecursion (λ (b : Begun). b.0 < number) begun → BegunBelow first number last begun
     → new_from first last begun ≡ []
 all_dropped first number last [] under below = refl
 all_dropped first number last (b ∷ begun) (here, under) (low, below) =
@@ -159,7 +159,7 @@ begun_before start node (entry ∷ earlier) before =
 
 -- ---- a whole reading, and the one behind some sound entries
 
-sound_behind : (start : Start) (before behind : List LogEntry) → AllSound start before
+pub sound_behind : (start : Start) (before behind : List LogEntry) → AllSound start before
     → sound_entries start (before ++ behind) ≡ before ++ sound_entries (left_by start (reverse before)) behind
 sound_behind start [] behind sound = refl
 sound_behind start (entry ∷ before) behind (none, sound) =
@@ -230,7 +230,7 @@ take_past zero more (x ∷ xs) ys is = absurd (omega (arith, is))
 take_past {X} (suc count) more (x ∷ xs) ys is =
     ap (λ (list : List X). x ∷ list) (take_past count more xs ys (let n : count ≡ length xs + more = omega (arith, is) in n))
 
-sound_front : (start : Start) (front rest : List LogEntry) → AllSound start (front ++ rest) → AllSound start front
+pub sound_front : (start : Start) (front rest : List LogEntry) → AllSound start (front ++ rest) → AllSound start front
 sound_front start [] rest sound = tt
 sound_front start (entry ∷ front) rest (none, sound) = (none, sound_front (next entry.kind start) front rest sound)
 
@@ -275,7 +275,7 @@ split_longer from entries number more s =
     }
 
 -- what a restart point reads, by the entries before it
-rest_of_split : (last : Key) (from point : RestartPoint) (node : ℕ) (before behind : List LogEntry) → 1 ≤ from.entry
+pub rest_of_split : (last : Key) (from point : RestartPoint) (node : ℕ) (before behind : List LogEntry) → 1 ≤ from.entry
     → point ≡ point_behind from (reverse before) → AllSound (start_at from) before
     → IsRestartEntry last (start_at from) node
     (reverse (sound_entries (left_by (start_at from) (reverse before)) behind) ++ reverse before) point.entry
@@ -324,11 +324,11 @@ restart_reads_the_rest last from point node old entries h front is =
 -- ---- the place of a point
 
 -- the last of some entries, where there are any
-data Last (entries : List LogEntry) : Type 0 where
+pub data Last (entries : List LogEntry) : Type 0 where
   none : entries ≡ [] → Last entries
   some : (front : List LogEntry) (entry : LogEntry) → entries ≡ front ++ entry ∷ [] → reverse entries ≡ entry ∷ reverse front → Last entries
 
-last_of : (entries : List LogEntry) → Last entries
+pub last_of : (entries : List LogEntry) → Last entries
 last_of entries = by (reverse entries) refl
   where
     by : (list : List LogEntry) → reverse entries ≡ list → Last entries

@@ -17,11 +17,11 @@ use Rattle.cdc_model.specs.Run.{row_bytes, run_bytes, run_body, run_rows, IsRun,
 
 -- ---- a body's bytes are read as the body
 
-no_test : false ≡ true → ⊥
+pub no_test : false ≡ true → ⊥
 no_test e = cc
 
 -- a body that stands under a type, and not under 15, is of another type
-not_format : (kind : ℕ) (body : Body) → has_kind body 15 ≡ false → IsTrue (has_kind body kind) → (kind == 15) ≡ false
+pub not_format : (kind : ℕ) (body : Body) → has_kind body 15 ≡ false → IsTrue (has_kind body kind) → (kind == 15) ≡ false
 not_format kind body other typed = by (kind == 15) refl
   where
     by : (test : Bool) → (kind == 15) ≡ test → test ≡ false
@@ -30,13 +30,13 @@ not_format kind body other typed = by (kind == 15) refl
         absurd (no_test (sym other ∙ under))
     by false e = refl
 
-other_back : (kind : ℕ) (body : Body) → HasKnownAlgorithm body → has_kind body 15 ≡ false → FitsBody body → IsTrue (has_kind body kind)
+pub other_back : (kind : ℕ) (body : Body) → HasKnownAlgorithm body → has_kind body 15 ≡ false → FitsBody body → IsTrue (has_kind body kind)
     → run_body kind (body_bytes body) ≡ body
 unfolding run_body
 other_back kind body known other fits typed =
     rw (not_format kind body other typed, body_again kind (body_bytes body) body record { fits = fits; typed = typed; algorithm = known; spelled = refl }) refl
 
-format_back : (kind : ℕ) (text : List ℕ) (created : ℕ) (lengths : List ℕ) (checksum tail : ℕ) → FitsBody (Format text created lengths checksum tail)
+pub format_back : (kind : ℕ) (text : List ℕ) (created : ℕ) (lengths : List ℕ) (checksum tail : ℕ) → FitsBody (Format text created lengths checksum tail)
     → kind ≡ 15 → run_body kind (body_bytes (Format text created lengths checksum tail)) ≡ Format text created lengths checksum tail
 unfolding run_body
 format_back kind text created lengths checksum tail fits is =
@@ -66,14 +66,14 @@ seen_is kind bytes body spells = ap (seen_row kind) spells.spelled ∙ row_back 
 
 -- ---- the first row of a run
 
-cut_here : (kind count size : ℕ) (own behind : List ℕ) → size ≡ length own
+pub cut_here : (kind count size : ℕ) (own behind : List ℕ) → size ≡ length own
     → (kind, run_body kind (take size (own ++ behind))) ∷ run_rows count (drop size (own ++ behind)) ≡ (kind, run_body kind own) ∷ run_rows count behind
 cut_here kind count size own behind is = rw (is, take-append_seam own behind, drop-append_seam own behind) refl
 
-length_back : (row : Row) → IsRow row → number_of (low_first 4 (length (body_bytes row.1))) ≡ length (body_bytes row.1)
+pub length_back : (row : Row) → IsRow row → number_of (low_first 4 (length (body_bytes row.1))) ≡ length (body_bytes row.1)
 length_back row is = number_again 4 (length (body_bytes row.1)) (omega (arith, is.most))
 
-first_read : (row : Row) (count : ℕ) (behind : List ℕ) → IsRow row
+pub first_read : (row : Row) (count : ℕ) (behind : List ℕ) → IsRow row
     → run_rows (suc count) (row_bytes row ++ behind) ≡ seen_row row.0 (body_bytes row.1) ∷ run_rows count behind
 unfolding run_rows low_first
 first_read row count behind is =
@@ -105,15 +105,15 @@ none_run bytes is = rw (is, none_rows []) record { counted = refl; spelled = ref
 
 -- ---- one row more
 
-run_append : (rows more : List Row) → run_bytes (rows ++ more) ≡ run_bytes rows ++ run_bytes more
+pub run_append : (rows more : List Row) → run_bytes (rows ++ more) ≡ run_bytes rows ++ run_bytes more
 run_append [] more = refl
 run_append (row ∷ rows) more =
     ap (λ (list : List ℕ). row_bytes row ++ list) (run_append rows more) ∙ sym (append_assoc (row_bytes row) (run_bytes rows) (run_bytes more))
 
-one_run : (row : Row) → run_bytes (row ∷ []) ≡ row_bytes row
+pub one_run : (row : Row) → run_bytes (row ∷ []) ≡ row_bytes row
 one_run row = append-nil (row_bytes row)
 
-all_more : (rows : List Row) (row : Row) → AllByRecursion IsRow rows → IsRow row → AllByRecursion IsRow (rows ++ row ∷ [])
+pub all_more : (rows : List Row) (row : Row) → AllByRecursion IsRow rows → IsRow row → AllByRecursion IsRow (rows ++ row ∷ [])
 all_more [] row all is = (is, tt)
 all_more (first ∷ rows) row (one, all) is = (one, all_more rows row all is)
 
@@ -163,14 +163,14 @@ pub record IsCut (count : ℕ) (bytes : List ℕ) : Type 0 where
   pub rest : IsRun count (first_behind bytes) (run_rows count (first_behind bytes))
 
 -- the parts of the first row, as it is laid
-record IsLaid (row : Row) (behind bytes : List ℕ) : Type 0 where
-  kind : first_kind bytes ≡ row.0
-  size : first_length bytes ≡ length (body_bytes row.1)
-  tail : drop 5 bytes ≡ body_bytes row.1 ++ behind
-  own : first_own bytes ≡ body_bytes row.1
-  rest : first_behind bytes ≡ behind
+pub record IsLaid (row : Row) (behind bytes : List ℕ) : Type 0 where
+  pub kind : first_kind bytes ≡ row.0
+  pub size : first_length bytes ≡ length (body_bytes row.1)
+  pub tail : drop 5 bytes ≡ body_bytes row.1 ++ behind
+  pub own : first_own bytes ≡ body_bytes row.1
+  pub rest : first_behind bytes ≡ behind
 
-is_laid : (row : Row) (behind : List ℕ) → IsRow row → IsLaid row behind (row_bytes row ++ behind)
+pub is_laid : (row : Row) (behind : List ℕ) → IsRow row → IsLaid row behind (row_bytes row ++ behind)
 unfolding low_first
 is_laid row behind is =
     let size : number_of (low_first 4 (length (body_bytes row.1))) ≡ length (body_bytes row.1) = length_back row is in
@@ -182,7 +182,7 @@ is_laid row behind is =
       rest = ap (λ (n : ℕ). drop n (body_bytes row.1 ++ behind)) size ∙ drop-append_seam (body_bytes row.1) behind;
     }
 
-cut_of : (count : ℕ) (row : Row) (rows : List Row) (bytes : List ℕ) → IsRow row → AllByRecursion IsRow rows → count ≡ length rows
+pub cut_of : (count : ℕ) (row : Row) (rows : List Row) (bytes : List ℕ) → IsRow row → AllByRecursion IsRow rows → count ≡ length rows
     → bytes ≡ row_bytes row ++ run_bytes rows → IsLaid row (run_bytes rows) bytes → IsCut count bytes
 cut_of count row rows bytes is all counted spelled laid =
     let run : IsRun count (first_behind bytes) rows = record { counted = counted; spelled = laid.rest; all = all } in
@@ -202,13 +202,13 @@ cut_of count row rows bytes is all counted spelled laid =
       rest = run_is count (first_behind bytes) rows run;
     }
 
-begins : (count : ℕ) (bytes : List ℕ) (rows : List Row) → IsRun (suc count) bytes rows → IsCut count bytes
+pub begins : (count : ℕ) (bytes : List ℕ) (rows : List Row) → IsRun (suc count) bytes rows → IsCut count bytes
 begins count bytes [] run = absurd (omega (arith, run.counted))
 begins count bytes (row ∷ rows) run =
     let laid : IsLaid row (run_bytes rows) bytes = subst (IsLaid row (run_bytes rows)) (sym run.spelled) (is_laid row (run_bytes rows) run.all.0) in
     cut_of count row rows bytes run.all.0 run.all.1 (omega (arith, run.counted)) run.spelled laid
 
-begins_at : (count : ℕ) (bytes : List ℕ) (rows : List Row) → (count ≡ 0 → ⊥) → IsRun count bytes rows → IsCut (count - 1) bytes
+pub begins_at : (count : ℕ) (bytes : List ℕ) (rows : List Row) → (count ≡ 0 → ⊥) → IsRun count bytes rows → IsCut (count - 1) bytes
 begins_at zero bytes rows some run = absurd (some refl)
 begins_at (suc count) bytes rows some run =
     let less : suc count - 1 ≡ count = omega arith in

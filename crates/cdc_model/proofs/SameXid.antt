@@ -8,12 +8,12 @@ use Rattle.cdc_base.specs.Xid.{same_xid}
 pub no_test : false ≡ true → ⊥
 no_test e = cc
 
-both : (a b : Bool) → (a && b) ≡ true → (a ≡ true) × (b ≡ true)
+pub both : (a b : Bool) → (a && b) ≡ true → (a ≡ true) × (b ≡ true)
 both true true e = (refl, refl)
 both true false e = absurd (no_test e)
 both false b e = absurd (no_test e)
 
-same_bytes : (xs ys : List ℕ) → pointwise nat_eq xs ys ≡ true → xs ≡ ys
+pub same_bytes : (xs ys : List ℕ) → pointwise nat_eq xs ys ≡ true → xs ≡ ys
 same_bytes [] [] e = refl
 same_bytes [] (y ∷ ys) e = absurd (no_test e)
 same_bytes (x ∷ xs) [] e = absurd (no_test e)

@@ -13,11 +13,11 @@ use Rattle.cdc_model.proofs.KeyList.{sorted_put, in_put, put_itself, put_other}
 abbrev pub keys_of : List CommittedBranch → List Key
 keys_of branches = map (λ (branch : CommittedBranch). branch.key) branches
 
-sorted_with : (test : Bool) (key : Key) (keys : List Key) → IsStrictlySortedBy key_order keys → IsStrictlySortedBy key_order (if test then put key keys else keys)
+pub sorted_with : (test : Bool) (key : Key) (keys : List Key) → IsStrictlySortedBy key_order keys → IsStrictlySortedBy key_order (if test then put key keys else keys)
 sorted_with true key keys sorted = sorted_put key keys sorted
 sorted_with false key keys sorted = sorted
 
-sorted_behind : (mark : ℕ) (keys : List Key) (branches : List CommittedBranch) → IsStrictlySortedBy key_order keys
+pub sorted_behind : (mark : ℕ) (keys : List Key) (branches : List CommittedBranch) → IsStrictlySortedBy key_order keys
     → IsStrictlySortedBy key_order (fold (add_settled mark) keys branches)
 sorted_behind mark keys [] sorted = sorted
 sorted_behind mark keys (branch ∷ branches) sorted =
@@ -29,16 +29,16 @@ settled_sorted mark branches = sorted_behind mark [] branches tt
 
 -- ---- what is in them
 
-in_with : (test : Bool) (key : Key) (keys : List Key) (other : Key) → Contains (if test then put key keys else keys) other
+pub in_with : (test : Bool) (key : Key) (keys : List Key) (other : Key) → Contains (if test then put key keys else keys) other
     → ((test ≡ true) × (key ≡ other)) ⊎ Contains keys other
 in_with true key keys other within = elim (in_put key keys other within) [ inl is ↦ inl (refl, is) | inr before ↦ inr before ]
 in_with false key keys other within = inr within
 
-with_itself : (test : Bool) (key : Key) (keys : List Key) → test ≡ true → Contains (if test then put key keys else keys) key
+pub with_itself : (test : Bool) (key : Key) (keys : List Key) → test ≡ true → Contains (if test then put key keys else keys) key
 with_itself true key keys is = put_itself key keys
 with_itself false key keys is = absurd (cc)
 
-with_other : (test : Bool) (key : Key) (keys : List Key) (other : Key) → Contains keys other → Contains (if test then put key keys else keys) other
+pub with_other : (test : Bool) (key : Key) (keys : List Key) (other : Key) → Contains keys other → Contains (if test then put key keys else keys) other
 with_other true key keys other within = put_other key keys other within
 with_other false key keys other within = within
 
@@ -46,11 +46,11 @@ with_other false key keys other within = within
 abbrev pub IsSettledOf : ℕ → List CommittedBranch → Key → Type 0
 IsSettledOf mark branches key = IsTrue (is_settled mark key) × Contains (keys_of branches) key
 
-settled_later : (mark : ℕ) (branch : CommittedBranch) (branches : List CommittedBranch) (key : Key)
+pub settled_later : (mark : ℕ) (branch : CommittedBranch) (branches : List CommittedBranch) (key : Key)
     → IsSettledOf mark branches key → IsSettledOf mark (branch ∷ branches) key
 settled_later mark branch branches key (settled, within) = (settled, contains_later branch.key (keys_of branches) key within)
 
-in_behind : (mark : ℕ) (keys : List Key) (branches : List CommittedBranch) (key : Key)
+pub in_behind : (mark : ℕ) (keys : List Key) (branches : List CommittedBranch) (key : Key)
     → Contains (fold (add_settled mark) keys branches) key → IsSettledOf mark branches key ⊎ Contains keys key
 in_behind mark keys [] key within = inr within
 in_behind mark keys (branch ∷ branches) key within =
@@ -64,13 +64,13 @@ in_behind mark keys (branch ∷ branches) key within =
           ]
     ]
 
-still_behind : (mark : ℕ) (keys : List Key) (branches : List CommittedBranch) (key : Key)
+pub still_behind : (mark : ℕ) (keys : List Key) (branches : List CommittedBranch) (key : Key)
     → Contains keys key → Contains (fold (add_settled mark) keys branches) key
 still_behind mark keys [] key within = within
 still_behind mark keys (branch ∷ branches) key within =
     still_behind mark (add_settled mark keys branch) branches key (with_other (is_settled mark branch.key) branch.key keys key within)
 
-settled_behind : (mark : ℕ) (keys : List Key) (branches : List CommittedBranch) (key : Key)
+pub settled_behind : (mark : ℕ) (keys : List Key) (branches : List CommittedBranch) (key : Key)
     → IsTrue (is_settled mark key) → Contains (keys_of branches) key → Contains (fold (add_settled mark) keys branches) key
 settled_behind mark keys [] key settled within = absurd (contains_none key within)
 settled_behind mark keys (branch ∷ branches) key settled within =

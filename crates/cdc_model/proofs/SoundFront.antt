@@ -16,7 +16,7 @@ pub left_behind : (start : Start) (entry : LogEntry) (later : List LogEntry)
 left_behind start entry later =
     sym (left_append start (reverse later) (entry ∷ [])) ∙ ap (left_by start) (sym (reverse_onto later entry []))
 
-sound_first : (start : Start) (entry : LogEntry) (entries sound : List LogEntry) → entry_fault entry.kind start ≡ None
+pub sound_first : (start : Start) (entry : LogEntry) (entries sound : List LogEntry) → entry_fault entry.kind start ≡ None
     → IsLongestSoundFront (next entry.kind start) entries sound → IsLongestSoundFront start (entry ∷ entries) (entry ∷ sound)
 sound_first start entry entries sound none longest = record {
   rest = longest.rest;
@@ -25,7 +25,7 @@ sound_first start entry entries sound none longest = record {
   longest = subst (λ (s : Start). EndsAt s longest.rest) (left_behind start entry sound) longest.longest;
 }
 
-longest_at : (start : Start) (entry : LogEntry) (entries sound : List LogEntry) (fault : Option SortFault) → entry_fault entry.kind start ≡ fault
+pub longest_at : (start : Start) (entry : LogEntry) (entries sound : List LogEntry) (fault : Option SortFault) → entry_fault entry.kind start ≡ fault
     → IsLongestSoundFront (next entry.kind start) entries sound
     → IsLongestSoundFront start (entry ∷ entries) (if is_none fault then entry ∷ sound else [])
 longest_at start entry entries sound None is longest = sound_first start entry entries sound is longest

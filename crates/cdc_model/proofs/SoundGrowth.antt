@@ -40,16 +40,16 @@ use Rattle.cdc_model.proofs.GrammarRows.{all_both}
 abbrev Stays : List LogEntry → Option (Place × NodeFault) → Option (Place × NodeFault) → Type 0
 Stays new fault later = fault ≢ None → (new ≡ []) × (later ≡ fault)
 
-sound_by : (start : Start) (entry : LogEntry) (entries : List LogEntry) (fault : Option SortFault) → entry_fault entry.kind start ≡ fault
+pub sound_by : (start : Start) (entry : LogEntry) (entries : List LogEntry) (fault : Option SortFault) → entry_fault entry.kind start ≡ fault
     → sound_entries start (entry ∷ entries) ≡ (if is_none fault then entry ∷ sound_entries (next entry.kind start) entries else [])
 sound_by start entry entries fault is = ap (λ (f : Option SortFault). if is_none f then entry ∷ sound_entries (next entry.kind start) entries else []) is
 
-fault_by : (start : Start) (entry : LogEntry) (entries : List LogEntry) (ended : Option (Place × NodeFault)) (fault : Option SortFault) → entry_fault entry.kind start ≡ fault
+pub fault_by : (start : Start) (entry : LogEntry) (entries : List LogEntry) (ended : Option (Place × NodeFault)) (fault : Option SortFault) → entry_fault entry.kind start ≡ fault
     → log_fault Sort start (entry ∷ entries) ended ≡ sort_or Sort (fault_or entry.at fault (sort_fault (next entry.kind start) entries)) ended
 fault_by start entry entries ended fault is =
     ap (λ (f : Option SortFault). sort_or Sort (fault_or entry.at f (sort_fault (next entry.kind start) entries)) ended) is
 
-lengthens_from : (entries longer others further : List LogEntry) (fault later other last : Option (Place × NodeFault))
+pub lengthens_from : (entries longer others further : List LogEntry) (fault later other last : Option (Place × NodeFault))
     → entries ≡ others → longer ≡ further → fault ≡ other → later ≡ last → LengthensLog others further other last → LengthensLog entries longer fault later
 lengthens_from entries longer others further fault later other last a b c d h =
     subst (λ (list : List LogEntry). LengthensLog list longer fault later) (sym a)
@@ -57,7 +57,7 @@ lengthens_from entries longer others further fault later other last a b c d h =
     (subst (λ (f : Option (Place × NodeFault)). LengthensLog others further f later) (sym c)
     (subst (λ (f : Option (Place × NodeFault)). LengthensLog others further other f) (sym d) h)))
 
-lengthens_with : (entry : LogEntry) (entries longer : List LogEntry) (fault later : Option (Place × NodeFault))
+pub lengthens_with : (entry : LogEntry) (entries longer : List LogEntry) (fault later : Option (Place × NodeFault))
     → LengthensLog entries longer fault later → LengthensLog (entry ∷ entries) (entry ∷ longer) fault later
 lengthens_with entry entries longer fault later h = record {
   new = h.new;
@@ -65,7 +65,7 @@ lengthens_with entry entries longer fault later h = record {
   stays = h.stays;
 }
 
-sound_lengthens : (start : Start) (entries new : List LogEntry) (fault later : Option (Place × NodeFault)) → Stays new fault later
+pub sound_lengthens : (start : Start) (entries new : List LogEntry) (fault later : Option (Place × NodeFault)) → Stays new fault later
     → LengthensLog (sound_entries start entries) (sound_entries start (entries ++ new)) (log_fault Sort start entries fault) (log_fault Sort start (entries ++ new) later)
 sound_lengthens start [] new fault later stays = record {
   new = sound_entries start new;
@@ -141,7 +141,7 @@ pub record StaysAbove (low : ℕ) (start : Start) : Type 0 where
   pub mark : low ≤ start.mark
   pub floors : AllByRecursion (λ (branch : OpenBranch). low ≤ branch.floor) start.opened
 
-least_reaches : (low most : ℕ) (branches : List OpenBranch) → low ≤ most → AllByRecursion (λ (branch : OpenBranch). low ≤ branch.floor) branches
+pub least_reaches : (low most : ℕ) (branches : List OpenBranch) → low ≤ most → AllByRecursion (λ (branch : OpenBranch). low ≤ branch.floor) branches
     → low ≤ least most (map (λ o. o.floor) branches)
 least_reaches low most [] h all = h
 least_reaches low most (branch ∷ branches) h (here, all) = least_reaches low (min most branch.floor) branches (omega (arith, h, here)) all
@@ -149,13 +149,13 @@ least_reaches low most (branch ∷ branches) h (here, all) = least_reaches low (
 pub reaches_low : (low : ℕ) (start : Start) → StaysAbove low start → low ≤ node_low_water_mark start
 reaches_low low start reaches = least_reaches low start.mark start.opened reaches.mark reaches.floors
 
-least_is_low : (most : ℕ) (branches : List OpenBranch) → least most (map (λ o. o.floor) branches) ≤ most
+pub least_is_low : (most : ℕ) (branches : List OpenBranch) → least most (map (λ o. o.floor) branches) ≤ most
 least_is_low most [] = le_refl most
 least_is_low most (branch ∷ branches) =
     let h : least (min most branch.floor) (map (λ o. o.floor) branches) ≤ min most branch.floor = least_is_low (min most branch.floor) branches in
     omega (arith, h)
 
-least_is_below : (most : ℕ) (branches : List OpenBranch) → AllByRecursion (λ (branch : OpenBranch). least most (map (λ o. o.floor) branches) ≤ branch.floor) branches
+pub least_is_below : (most : ℕ) (branches : List OpenBranch) → AllByRecursion (λ (branch : OpenBranch). least most (map (λ o. o.floor) branches) ≤ branch.floor) branches
 least_is_below most [] = tt
 least_is_below most (branch ∷ branches) =
     let h : least (min most branch.floor) (map (λ o. o.floor) branches) ≤ min most branch.floor = least_is_low (min most branch.floor) branches in
@@ -164,7 +164,7 @@ least_is_below most (branch ∷ branches) =
 pub low_reaches : (start : Start) → StaysAbove (node_low_water_mark start) start
 low_reaches start = record { mark = least_is_low start.mark start.opened; floors = least_is_below start.mark start.opened }
 
-floors_entered : (low : ℕ) (branch : OpenBranch) (branches : List OpenBranch) → low ≤ branch.floor
+pub floors_entered : (low : ℕ) (branch : OpenBranch) (branches : List OpenBranch) → low ≤ branch.floor
     → AllByRecursion (λ (o : OpenBranch). low ≤ o.floor) branches → AllByRecursion (λ (o : OpenBranch). low ≤ o.floor) (enter branch branches)
 floors_entered low branch [] h all = (h, tt)
 floors_entered low branch (first ∷ rest) h (here, all) = by (is_lt (xid_order branch.xid first.xid)) (floors_entered low branch rest h all)
@@ -174,11 +174,11 @@ floors_entered low branch (first ∷ rest) h (here, all) = by (is_lt (xid_order 
     by true later = (h, (here, all))
     by false later = (here, later)
 
-floors_without : (low : ℕ) (xid : Xid) (branches : List OpenBranch) → AllByRecursion (λ (o : OpenBranch). low ≤ o.floor) branches
+pub floors_without : (low : ℕ) (xid : Xid) (branches : List OpenBranch) → AllByRecursion (λ (o : OpenBranch). low ≤ o.floor) branches
     → AllByRecursion (λ (o : OpenBranch). low ≤ o.floor) (without xid branches)
 floors_without low xid branches all = all_filtered (λ (o : OpenBranch). low ≤ o.floor) (λ (o : OpenBranch). not (same_xid xid o.xid)) branches all
 
-floors_next : (low : ℕ) (kind : EntryKind) (start : Start) → StaysAbove low start → AllByRecursion (λ (o : OpenBranch). low ≤ o.floor) (opened_by kind start)
+pub floors_next : (low : ℕ) (kind : EntryKind) (start : Start) → StaysAbove low start → AllByRecursion (λ (o : OpenBranch). low ≤ o.floor) (opened_by kind start)
 floors_next low (Prepare xid rows) start reaches =
     floors_entered low (record { xid = xid; floor = start.mark; entry = start.entry; rows = rows }) (without xid start.opened) reaches.mark
     (floors_without low xid start.opened reaches.floors)
@@ -193,14 +193,14 @@ reaches_next low kind start reaches = record { mark = omega (arith, reaches.mark
 
 -- ---- what an entry commits above it
 
-above_floor : (timestamp floor : ℕ) (low : Bool) → leb timestamp floor ≡ low → (if low then Some (Undercut timestamp floor) else None) ≡ None → floor < timestamp
+pub above_floor : (timestamp floor : ℕ) (low : Bool) → leb timestamp floor ≡ low → (if low then Some (Undercut timestamp floor) else None) ≡ None → floor < timestamp
 above_floor timestamp floor true is sound = absurd (cc)
 above_floor timestamp floor false is sound = leb-false timestamp floor is
 
-not_undercut : (timestamp floor : ℕ) → undercut timestamp floor ≡ None → floor < timestamp
+pub not_undercut : (timestamp floor : ℕ) → undercut timestamp floor ≡ None → floor < timestamp
 not_undercut timestamp floor sound = above_floor timestamp floor (leb timestamp floor) refl sound
 
-found_floor : (low : ℕ) (test : OpenBranch → Bool) (branches : List OpenBranch) (branch : OpenBranch)
+pub found_floor : (low : ℕ) (test : OpenBranch → Bool) (branches : List OpenBranch) (branch : OpenBranch)
     → AllByRecursion (λ (o : OpenBranch). low ≤ o.floor) branches → find test branches ≡ Some branch → low ≤ branch.floor
 found_floor low test [] branch all found = absurd (cc)
 found_floor low test (first ∷ rest) branch (here, all) found = by (test first) (found_floor low test rest branch all) found
@@ -212,11 +212,11 @@ found_floor low test (first ∷ rest) branch (here, all) found = by (test first)
 abbrev AboveLow : ℕ → List Begun → Type 0
 AboveLow low begun = AllByRecursion (λ (b : Begun). LiesAbove low b.1.key) begun
 
-one_phase_above : (low : ℕ) (xid : Xid) (opened : Option OpenBranch) (timestamp mark : ℕ) → low ≤ mark → unless_open xid opened (undercut timestamp mark) ≡ None → low < timestamp
+pub one_phase_above : (low : ℕ) (xid : Xid) (opened : Option OpenBranch) (timestamp mark : ℕ) → low ≤ mark → unless_open xid opened (undercut timestamp mark) ≡ None → low < timestamp
 one_phase_above low xid None timestamp mark h sound = let more = not_undercut timestamp mark sound in omega (arith, h, more)
 one_phase_above low xid (Some branch) timestamp mark h sound = absurd (cc)
 
-commit_above : (low : ℕ) (xid : Xid) (key : Key) (timestamp number seconds : ℕ) (opened : Option OpenBranch)
+pub commit_above : (low : ℕ) (xid : Xid) (key : Key) (timestamp number seconds : ℕ) (opened : Option OpenBranch)
     → ((branch : OpenBranch) → opened ≡ Some branch → low ≤ branch.floor) → key ≡ Shared timestamp xid.gtrid
     → when_open xid opened (λ branch. undercut timestamp branch.floor) ≡ None → AboveLow low (committed key number seconds opened)
 commit_above low xid key timestamp number seconds None floors is sound = tt
@@ -249,7 +249,7 @@ begun_append start node (entry ∷ later) earlier =
 pub reverse_first : (entry : LogEntry) (entries : List LogEntry) → reverse (entry ∷ entries) ≡ reverse entries ++ entry ∷ []
 reverse_first entry entries = reverse_onto entries entry []
 
-further_above : (low node : ℕ) (start : Start) (entries : List LogEntry) → StaysAbove low start → AllSound start entries
+pub further_above : (low node : ℕ) (start : Start) (entries : List LogEntry) → StaysAbove low start → AllSound start entries
     → AboveLow low (begun_branches start node (reverse entries))
 further_above low node start [] reaches sound = tt
 further_above low node start (entry ∷ entries) reaches (here, sound) =
@@ -259,7 +259,7 @@ further_above low node start (entry ∷ entries) reaches (here, sound) =
     (entry_above low node entry.kind start reaches here)
     (further_above low node (next entry.kind start) entries (reaches_next low entry.kind start reaches) sound))
 
-further_reaches : (low : ℕ) (start : Start) (entries : List LogEntry) → StaysAbove low start → StaysAbove low (left_by start (reverse entries))
+pub further_reaches : (low : ℕ) (start : Start) (entries : List LogEntry) → StaysAbove low start → StaysAbove low (left_by start (reverse entries))
 further_reaches low start [] reaches = reaches
 further_reaches low start (entry ∷ entries) reaches =
     subst (StaysAbove low) (left_behind start entry entries) (further_reaches low (next entry.kind start) entries (reaches_next low entry.kind start reaches))
@@ -279,7 +279,7 @@ new_above low last start (b ∷ begun) (here, all) = by (is_new last start b) (n
     by true later = (here, later)
     by false later = later
 
-mark_rises : (last : Key) (node : ℕ) (old new : NodeLog) (start : Start) (front rest : List LogEntry) → old.start ≡ start → new.start ≡ start
+pub mark_rises : (last : Key) (node : ℕ) (old new : NodeLog) (start : Start) (front rest : List LogEntry) → old.start ≡ start → new.start ≡ start
     → sound_entries old.start old.entries ≡ front → sound_entries new.start new.entries ≡ front ++ rest → AllSound start (front ++ rest) → MarkRises last node old new
 mark_rises last node old new start front rest old_start new_start old_is new_is sound =
     let here : Start = left_by start (reverse front) in

@@ -14,7 +14,7 @@ use Rattle.cdc_model.proofs.Files.{one_more_is_one_step}
 -- ---- files and layouts
 
 -- bytes behind the last closed file go to the open one, or begin one
-appended_last : (closed : List (List ℕ)) (current bytes : List ℕ) → appended_to (length closed + 1) bytes (closed ++ open_file current) ≡ closed ++ (current ++ bytes) ∷ []
+pub appended_last : (closed : List (List ℕ)) (current bytes : List ℕ) → appended_to (length closed + 1) bytes (closed ++ open_file current) ≡ closed ++ (current ++ bytes) ∷ []
 appended_last [] [] bytes = refl
 appended_last [] (byte ∷ current) bytes = refl
 appended_last (file ∷ closed) current bytes =
@@ -25,10 +25,10 @@ appended_last (file ∷ closed) current bytes =
 abbrev layout_at : ℕ → ℕ → Bool → Layout
 layout_at file size closed = record { file = file; length = size; closed = closed }
 
-same_layout : (file file' size size' : ℕ) (closed : Bool) → file ≡ file' → size ≡ size' → layout_at file size closed ≡ layout_at file' size' closed
+pub same_layout : (file file' size size' : ℕ) (closed : Bool) → file ≡ file' → size ≡ size' → layout_at file size closed ≡ layout_at file' size' closed
 same_layout file file' size size' closed e f = rw (e, f) refl
 
-last_is_closed : (number : ℕ) (closed : List (List ℕ)) (file : List ℕ)
+pub last_is_closed : (number : ℕ) (closed : List (List ℕ)) (file : List ℕ)
     → last_closed number (closed ++ file ∷ []) ≡ layout_at (number + length closed) (length file) true
 last_is_closed number [] file = same_layout number (number + 0) (length file) (length file) true (omega arith) refl
 last_is_closed number (first ∷ []) file = same_layout (number + 1) (number + 1) (length file) (length file) true refl refl
@@ -37,13 +37,13 @@ last_is_closed number (first ∷ other ∷ closed) file =
     last_is_closed (number + 1) (other ∷ closed) file
     ∙ same_layout (number + 1 + length (other ∷ closed)) (number + length (first ∷ other ∷ closed)) (length file) (length file) true place refl
 
-open_layout : (closed : List (List ℕ)) (file : List ℕ) → 1 ≤ length file
+pub open_layout : (closed : List (List ℕ)) (file : List ℕ) → 1 ≤ length file
     → layout_with closed file ≡ layout_at (length closed + 1) (length file) false
 open_layout closed [] some = absurd (omega arith)
 open_layout closed (byte ∷ bytes) some = refl
 
 -- behind closed files no file is open, and the last one's number is theirs
-closed_layout : (number : ℕ) (first : List ℕ) (closed : List (List ℕ))
+pub closed_layout : (number : ℕ) (first : List ℕ) (closed : List (List ℕ))
     → (last_closed number (first ∷ closed)).closed ≡ true × (last_closed number (first ∷ closed)).file ≡ number + length closed
 closed_layout number first [] = (refl, omega arith)
 closed_layout number first (other ∷ closed) =
@@ -51,7 +51,7 @@ closed_layout number first (other ∷ closed) =
     let place : number + 1 + length closed ≡ number + length (other ∷ closed) = omega arith in
     (later.0, later.1 ∙ place)
 
-open_kept : (file : List ℕ) → 1 ≤ length file → open_file file ≡ file ∷ []
+pub open_kept : (file : List ℕ) → 1 ≤ length file → open_file file ≡ file ∷ []
 open_kept [] some = absurd (omega arith)
 open_kept (byte ∷ bytes) some = refl
 
@@ -135,7 +135,7 @@ unit_by begins rules rotation txn before =
       bytes = bytes;
     }
 
-head_begins : 1 ≤ length file_head
+pub head_begins : 1 ≤ length file_head
 unfolding file_head
 head_begins = omega arith
 
@@ -191,13 +191,13 @@ module _ (rules : List Rename) (rotation : ℕ) (txn : Transaction) where
   step_from output = step_of output.closed output.current
 
 -- a file that is left open is below the rotation size
-left_open : (full : Bool) (rotation at number size : ℕ) (head printed : List ℕ) → full ≡ leb rotation at → at ≡ size + length head + length printed
+pub left_open : (full : Bool) (rotation at number size : ℕ) (head printed : List ℕ) → full ≡ leb rotation at → at ≡ size + length head + length printed
     → IsTrue (not full) → size + length (head ++ (printed ++ (if full then rotate_event at number else []))) < rotation
 left_open true rotation at number size head printed is place left = absurd cc
 left_open false rotation at number size head printed is place left =
     omega (arith, leb-false rotation at (sym is), place, length-append head (printed ++ []), length-append printed [])
 
-unit_open : (begins : Bool) (rules : List Rename) (rotation : ℕ) (txn : Transaction) (before : Layout)
+pub unit_open : (begins : Bool) (rules : List Rename) (rotation : ℕ) (txn : Transaction) (before : Layout)
     → IsTrue (not (unit_by begins rules rotation txn before).after.closed) → (unit_by begins rules rotation txn before).after.length < rotation
 unit_open true rules rotation txn before =
     let at : ℕ = length file_head + printed_length rules txn in

@@ -19,19 +19,19 @@ use Rattle.cdc_model.specs.Openings.{IsXidBelow, AscendByXid, OpenBranchesAscend
 use Rattle.cdc_model.proofs.OpenBranches.{same_xid_laws}
 use Rattle.cdc_model.proofs.SameXid.{no_test, xid_of}
 
-xid_order_total : IsTotalOrder xid_order
+pub xid_order_total : IsTotalOrder xid_order
 xid_order_total = search (comparing, rules) depth 9
 
 -- ---- the order of xids, and its words
 
-number_below : (a b : ℕ) → nat_cmp a b ≡ Less → a < b
+pub number_below : (a b : ℕ) → nat_cmp a b ≡ Less → a < b
 number_below a b e = grind (arith, nat_tests, e)
 
-below_number : (a b : ℕ) → a < b → nat_cmp a b ≡ Less
+pub below_number : (a b : ℕ) → a < b → nat_cmp a b ≡ Less
 below_number a b h = grind (arith, nat_tests, h)
 
 -- by the orders of their parts
-below_by : (x y : Xid) (id qualifier : Ordering) → slice_cmp nat_cmp x.gtrid y.gtrid ≡ id → slice_cmp nat_cmp x.bqual y.bqual ≡ qualifier
+pub below_by : (x y : Xid) (id qualifier : Ordering) → slice_cmp nat_cmp x.gtrid y.gtrid ≡ id → slice_cmp nat_cmp x.bqual y.bqual ≡ qualifier
     → ordering_then id (ordering_then qualifier (nat_cmp x.format y.format)) ≡ Less → IsXidBelow x y
 below_by x y Less qualifier p q e = inl p
 below_by x y Greater qualifier p q e = absurd (let f : Greater ≡ Less = e in cc)
@@ -40,37 +40,37 @@ below_by x y Equal Greater p q e = absurd (let f : Greater ≡ Less = e in cc)
 below_by x y Equal Equal p q e =
     inr (inr (exact_bytes x.gtrid y.gtrid p, exact_bytes x.bqual y.bqual q, number_below x.format y.format e))
 
-ordered_by : (x y : Xid) (id qualifier : Ordering) → slice_cmp nat_cmp x.gtrid y.gtrid ≡ id → slice_cmp nat_cmp x.bqual y.bqual ≡ qualifier
+pub ordered_by : (x y : Xid) (id qualifier : Ordering) → slice_cmp nat_cmp x.gtrid y.gtrid ≡ id → slice_cmp nat_cmp x.bqual y.bqual ≡ qualifier
     → xid_order x y ≡ ordering_then id (ordering_then qualifier (nat_cmp x.format y.format))
 ordered_by x y id qualifier p q =
     ap (λ (o : Ordering). ordering_then o (ordering_then (slice_cmp nat_cmp x.bqual y.bqual) (nat_cmp x.format y.format))) p
     ∙ ap (λ (o : Ordering). ordering_then id (ordering_then o (nat_cmp x.format y.format))) q
 
-is_below : (x y : Xid) → xid_order x y ≡ Less → IsXidBelow x y
+pub is_below : (x y : Xid) → xid_order x y ≡ Less → IsXidBelow x y
 is_below x y e =
     below_by x y (slice_cmp nat_cmp x.gtrid y.gtrid) (slice_cmp nat_cmp x.bqual y.bqual) refl refl
     (sym (ordered_by x y (slice_cmp nat_cmp x.gtrid y.gtrid) (slice_cmp nat_cmp x.bqual y.bqual) refl refl) ∙ e)
 
-itself : IsTotalOrder (slice_cmp nat_cmp)
+pub itself : IsTotalOrder (slice_cmp nat_cmp)
 itself = search (comparing, rules) depth 9
 
-ties_itself : {X : Type 0} (order : X → X → Ordering) → IsTotalOrder order → (x : X) (o : Ordering) → order x x ≡ o → o ≡ Equal
+pub ties_itself : {X : Type 0} (order : X → X → Ordering) → IsTotalOrder order → (x : X) (o : Ordering) → order x x ≡ o → o ≡ Equal
 ties_itself order total x Less is = absurd (let back : Less ≡ Greater = sym is ∙ total.antisymm x x ∙ ap ordering_reverse is in cc)
 ties_itself order total x Equal is = refl
 ties_itself order total x Greater is = absurd (let back : Greater ≡ Less = sym is ∙ total.antisymm x x ∙ ap ordering_reverse is in cc)
 
-ties : (xs ys : List ℕ) → xs ≡ ys → slice_cmp nat_cmp xs ys ≡ Equal
+pub ties : (xs ys : List ℕ) → xs ≡ ys → slice_cmp nat_cmp xs ys ≡ Equal
 ties xs ys is =
     ap (λ (list : List ℕ). slice_cmp nat_cmp list ys) is ∙ ties_itself (slice_cmp nat_cmp) itself ys (slice_cmp nat_cmp ys ys) refl
 
-is_ordered : (x y : Xid) → IsXidBelow x y → xid_order x y ≡ Less
+pub is_ordered : (x y : Xid) → IsXidBelow x y → xid_order x y ≡ Less
 is_ordered x y (inl p) = ordered_by x y Less (slice_cmp nat_cmp x.bqual y.bqual) p refl
 is_ordered x y (inr (inl (p, q))) = ordered_by x y Equal Less (ties x.gtrid y.gtrid p) q
 is_ordered x y (inr (inr (p, q, r))) =
     ordered_by x y Equal Equal (ties x.gtrid y.gtrid p) (ties x.bqual y.bqual q) ∙ below_number x.format y.format r
 
 -- xids that tie are one
-tied_by : (x y : Xid) (id qualifier : Ordering) → slice_cmp nat_cmp x.gtrid y.gtrid ≡ id → slice_cmp nat_cmp x.bqual y.bqual ≡ qualifier
+pub tied_by : (x y : Xid) (id qualifier : Ordering) → slice_cmp nat_cmp x.gtrid y.gtrid ≡ id → slice_cmp nat_cmp x.bqual y.bqual ≡ qualifier
     → ordering_then id (ordering_then qualifier (nat_cmp x.format y.format)) ≡ Equal → x ≡ y
 tied_by x y Less qualifier p q e = absurd (let f : Less ≡ Equal = e in cc)
 tied_by x y Greater qualifier p q e = absurd (let f : Greater ≡ Equal = e in cc)
@@ -86,17 +86,17 @@ tied x y e =
     tied_by x y (slice_cmp nat_cmp x.gtrid y.gtrid) (slice_cmp nat_cmp x.bqual y.bqual) refl refl
     (sym (ordered_by x y (slice_cmp nat_cmp x.gtrid y.gtrid) (slice_cmp nat_cmp x.bqual y.bqual) refl refl) ∙ e)
 
-below_on : (x y z : Xid) → IsXidBelow x y → IsXidBelow y z → IsXidBelow x z
+pub below_on : (x y z : Xid) → IsXidBelow x y → IsXidBelow y z → IsXidBelow x z
 below_on x y z a b = is_below x z (xid_order_total.trans x y z (is_ordered x y a) (is_ordered y z b))
 
 -- an xid that isn't below another, and isn't it, is above it
-above_by : (x y : Xid) (o : Ordering) → xid_order x y ≡ o → is_lt o ≡ false → same_xid x y ≡ false → IsXidBelow y x
+pub above_by : (x y : Xid) (o : Ordering) → xid_order x y ≡ o → is_lt o ≡ false → same_xid x y ≡ false → IsXidBelow y x
 above_by x y Less is fails differs = absurd (no_test (sym fails))
 above_by x y Equal is fails differs =
     absurd (no_test (sym differs ∙ ap (same_xid x) (sym (tied x y is)) ∙ same_xid_laws.refl x))
 above_by x y Greater is fails differs = is_below y x (xid_order_total.antisymm y x ∙ ap ordering_reverse is)
 
-lesser_by : (x y : Xid) (o : Ordering) → xid_order x y ≡ o → is_lt o ≡ true → IsXidBelow x y
+pub lesser_by : (x y : Xid) (o : Ordering) → xid_order x y ≡ o → is_lt o ≡ true → IsXidBelow x y
 lesser_by x y Less is yet = is_below x y is
 lesser_by x y Equal is yet = absurd (no_test yet)
 lesser_by x y Greater is yet = absurd (no_test yet)
@@ -117,7 +117,7 @@ all_filtered {X} P test (x ∷ xs) (here, all) = by (test x) (all_filtered P tes
     by true later = (here, later)
     by false later = later
 
-ascend_filtered : (test : OpenBranch → Bool) (branches : List OpenBranch) → AscendByXid branches → AscendByXid (filter test branches)
+pub ascend_filtered : (test : OpenBranch → Bool) (branches : List OpenBranch) → AscendByXid branches → AscendByXid (filter test branches)
 ascend_filtered test [] ascend = tt
 ascend_filtered test (branch ∷ rest) (below, ascend) = by (test branch) (ascend_filtered test rest ascend)
   where
@@ -125,7 +125,7 @@ ascend_filtered test (branch ∷ rest) (below, ascend) = by (test branch) (ascen
     by true later = (all_filtered (λ (other : OpenBranch). IsXidBelow branch.xid other.xid) test rest below, later)
     by false later = later
 
-none_left : (xid : Xid) (branches : List OpenBranch) → IsNone xid (without xid branches)
+pub none_left : (xid : Xid) (branches : List OpenBranch) → IsNone xid (without xid branches)
 none_left xid [] = tt
 none_left xid (branch ∷ rest) = by (same_xid xid branch.xid) refl (none_left xid rest)
   where
@@ -134,11 +134,11 @@ none_left xid (branch ∷ rest) = by (same_xid xid branch.xid) refl (none_left x
     by true is later = later
     by false is later = (is, later)
 
-below_rest : (xid other : Xid) (branches : List OpenBranch) → IsXidBelow xid other → IsBelowEach other branches → IsBelowEach xid branches
+pub below_rest : (xid other : Xid) (branches : List OpenBranch) → IsXidBelow xid other → IsBelowEach other branches → IsBelowEach xid branches
 below_rest xid other [] is all = tt
 below_rest xid other (branch ∷ rest) is (here, all) = (below_on xid other branch.xid is here, below_rest xid other rest is all)
 
-below_entered : (xid : Xid) (branch : OpenBranch) (branches : List OpenBranch) → IsXidBelow xid branch.xid → IsBelowEach xid branches
+pub below_entered : (xid : Xid) (branch : OpenBranch) (branches : List OpenBranch) → IsXidBelow xid branch.xid → IsBelowEach xid branches
     → IsBelowEach xid (enter branch branches)
 below_entered xid branch [] is all = (is, tt)
 below_entered xid branch (first ∷ rest) is (here, all) = by (is_lt (xid_order branch.xid first.xid)) (below_entered xid branch rest is all)
@@ -147,7 +147,7 @@ below_entered xid branch (first ∷ rest) is (here, all) = by (is_lt (xid_order 
     by true later = (is, (here, all))
     by false later = (here, later)
 
-ascend_entered : (branch : OpenBranch) (branches : List OpenBranch) → IsNone branch.xid branches → AscendByXid branches → AscendByXid (enter branch branches)
+pub ascend_entered : (branch : OpenBranch) (branches : List OpenBranch) → IsNone branch.xid branches → AscendByXid branches → AscendByXid (enter branch branches)
 ascend_entered branch [] none ascend = (tt, tt)
 ascend_entered branch (first ∷ rest) (differs, none) (below, ascend) =
     by (is_lt (xid_order branch.xid first.xid)) refl (ascend_entered branch rest none ascend)
@@ -163,10 +163,10 @@ ascend_entered branch (first ∷ rest) (differs, none) (below, ascend) =
 
 -- ---- one entry, and a history
 
-ascend_without : (xid : Xid) (branches : List OpenBranch) → AscendByXid branches → AscendByXid (without xid branches)
+pub ascend_without : (xid : Xid) (branches : List OpenBranch) → AscendByXid branches → AscendByXid (without xid branches)
 ascend_without xid branches ascend = ascend_filtered (λ (o : OpenBranch). not (same_xid xid o.xid)) branches ascend
 
-ascend_next : (kind : EntryKind) (start : Start) → AscendByXid start.opened → AscendByXid (opened_by kind start)
+pub ascend_next : (kind : EntryKind) (start : Start) → AscendByXid start.opened → AscendByXid (opened_by kind start)
 ascend_next (Prepare xid rows) start ascend =
     ascend_entered (record { xid = xid; floor = start.mark; entry = start.entry; rows = rows }) (without xid start.opened)
     (none_left xid start.opened) (ascend_without xid start.opened ascend)

@@ -29,6 +29,7 @@ pub mod Restart
 pub mod OneFile
 pub mod NodeReading
 pub mod RestartNodes
+pub mod NodeCuts
 -- what other crates cite
 pub use Rattle.cdc_model.specs.Records.{CommittedBranch, LogEntry, OpenBranch, OutputUnit}
 pub use Rattle.cdc_model.specs.Layout.{HasRoom, IsRotation, begins_file, next_file, next_place}

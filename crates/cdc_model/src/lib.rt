@@ -14,6 +14,7 @@ mod grammar_laws;
 mod growth_laws;
 mod laws;
 mod layout;
+mod node_cut;
 mod node_log;
 mod opened;
 mod order_laws;
@@ -50,6 +51,7 @@ pub use laws::{
     settled_fit, settled_is_exact, sound_is_longest, units_are_steps, units_make_files,
 };
 pub use layout::Layout;
+pub use node_cut::{HeldList, NodeCut};
 pub use node_log::NodeLog;
 pub use opened::{OpenList, Opened};
 pub use order_laws::{

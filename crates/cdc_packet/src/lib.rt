@@ -13,4 +13,4 @@ mod writing;
 pub use command::{Command, read_command};
 pub use packet_end::{LinkFault, PacketEnd};
 pub use reading::read_packet;
-pub use writing::write_packet;
+pub use writing::{HEAD_LENGTH, PACKET_MAX, head_of, write_packet};

@@ -14,14 +14,14 @@ use cdc_outside::{Failed, Link};
 pub const PACKET_MAX: usize = 16_777_215;
 
 /// The bytes before a packet's payload.
-const HEAD_LENGTH: usize = 4;
+pub const HEAD_LENGTH: usize = 4;
 
 /// The most bytes of a packet that is sent in one write.
 const SMALL: usize = 1_024;
 
 /// What stands before a packet's payload of so many bytes.
 #[tactic(auto, unfolding(cdc_event::specs::Number::low_first))]
-fn head_of(size: usize, sequence: u8) -> [u8; HEAD_LENGTH]
+pub fn head_of(size: usize, sequence: u8) -> [u8; HEAD_LENGTH]
     requires { size ≤ PACKET_MAX }
     ensures { result ≡ packet_head size sequence }
 {

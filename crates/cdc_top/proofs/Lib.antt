@@ -1,11 +1,7 @@
 mod Answered
-mod EventLists
-mod Nodes
-mod OneFile
-mod OrderLength
-mod PairLists
-mod ReadLogs
-mod SmallLogs
-mod TextAnswers
-mod ThinLemmas
-mod Written
+mod Facts
+mod KeyWords
+mod ListFindings
+mod Planning
+mod PrintFindings
+mod TextFindings

@@ -1,9 +1,8 @@
 pub mod Answers
 pub mod Call
-pub mod Logs
-pub mod Printing
-pub mod Small
+pub mod FaultText
+pub mod Listed
+pub mod Order
+pub mod Planning
 pub mod Texts
-pub mod Thin
-pub mod ThinReading
 pub mod Words

@@ -1,18 +1,21 @@
-//! The top call: what the program `cdc` answers to its words, over sources and sinks that are handed in.
+//! The top call: what the program `cdc` answers to its words, over sources, disks and sinks that are handed in.
 //!
-//! `top` reads its words by `cdc_config`. For `print` it reads the logs of all nodes, and prints their transactions in
-//! the global order. Its clauses are the service's promise; `cdc_prog` calls it over real files. A log is read in the thin form as yet (`specs/Thin.antt`).
+//! `top` reads its words by `cdc_config`, and does what they ask: `print` by `cdc_print`, `list` by `cdc_list` over the
+//! outs of a configuration. What the call met with, in
+//! `Findings`, decides its answer by one order for all commands (`answer_of` in `specs/Order.antt`). Its clauses are the
+//! service's promise; `cdc_prog` calls it over real files.
 #![tactic(auto)]
 
 mod answer;
-mod events;
-mod logs;
-mod pairs;
-mod print_call;
-mod print_file;
+mod config;
+mod fault_line;
+mod findings;
+mod line;
+mod list_call;
+mod report;
 mod texts;
-mod thin;
+mod top_call;
 
-pub use answer::{Answer, answer_without_memory};
-pub use print_call::top;
-pub use thin::thin_form_is_unique;
+pub use answer::Answer;
+pub use report::answer_without_memory;
+pub use top_call::top;

@@ -81,6 +81,10 @@ module _ {before into : List ℕ} {start at seconds : ℕ} {all rest : List Row}
 pub some_within : (before into : List ℕ) (start at seconds : ℕ) (all some rest : List Row) → Left before into start at seconds all (some ++ rest) → at + events_length some ≤ start + events_length all
 some_within before into start at seconds all some rest left = omega (arith, left.ends, sum_by-append row_length some rest)
 
+-- and so does one event
+pub event_within : (before into : List ℕ) (start at seconds : ℕ) (all : List Row) (event : Row) (rest : List Row) → Left before into start at seconds all (event ∷ rest) → at + row_length event ≤ start + events_length all
+event_within before into start at seconds all event rest left = omega (arith, left.ends, sum_by-cons row_length event rest)
+
 -- no event is left
 pub left_none : {before into : List ℕ} {start at seconds : ℕ} {all : List Row} → Left before into start at seconds all [] → record { bytes : into ≡ before ++ laid start seconds all; ends : at ≡ start + events_length all }
 left_none {into} left = record { bytes = sym (append-nil into) ∙ left.bytes; ends = omega (arith, left.ends) }

@@ -3,6 +3,7 @@ mod Marks
 mod Laid
 mod PrintedRows
 mod StatementsOnce
+mod StatementSets
 mod Queries
 mod Cases
 mod Counted

@@ -1,6 +1,5 @@
 -- Rows that are printed.
 use Rattle.std.proofs.Common.{◌≡◌, ℕ, ◌+◌, ◌<◌, ◌^◌, IsTrue, Bool, true, false, cond, List, [], ◌∷◌, ◌++◌, length, drop, get_or, is_none, refl, ap, sym, subst, ◌∙◌, arith}
-use Rattle.std.specs.List.{AllByRecursion}
 use Rattle.cdc_base.specs.declared.rename.Rename.{Rename}
 use Rattle.cdc_event.specs.declared.body.Body.{Body}
 use Rattle.cdc_model.specs.Records.{Row, CommittedBranch}

@@ -1,5 +1,5 @@
 -- Rows as they are lent: what their bytes say by their type.
-use Rattle.std.proofs.Common.{◌≡◌, ℕ, suc, ◌≤◌, ◌==◌, Bool, true, false, IsTrue, List, [], ◌∷◌, length, drop, Option, Some, None, refl, ap, sym, subst, ◌∙◌, arith}
+use Rattle.std.proofs.Common.{◌≡◌, ℕ, suc, ◌≤◌, ◌==◌, true, false, List, [], ◌∷◌, length, drop, Option, Some, None, refl, ap, sym, subst, ◌∙◌, arith}
 use Rattle.std.specs.Option.{option_map}
 use Rattle.std.proofs.lemmas.Bool.Decides.{nat_tests}
 use Rattle.cdc_base.specs.declared.rename.Rename.{Rename}
@@ -8,7 +8,7 @@ use Rattle.cdc_event.specs.declared.body.Body.TheVariants.{Format, Query, Rotate
 use Rattle.cdc_event.specs.declared.body.Body.TheVariants.{Xid as XidEvent}
 use Rattle.cdc_event.specs.declared.view.BodyView.{BodyView}
 use Rattle.cdc_event.specs.Event.{body_bytes, has_kind}
-use Rattle.cdc_event.specs.Reading.{HasKnownAlgorithm, IsBodyOf, body_at}
+use Rattle.cdc_event.specs.Reading.{HasKnownAlgorithm, body_at}
 use Rattle.cdc_event.specs.Table.{renamed}
 use Rattle.cdc_event.specs.View.{body_viewed}
 use Rattle.cdc_event.proofs.Bodies.{is_kind, body_again}

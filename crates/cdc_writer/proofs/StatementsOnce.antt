@@ -96,7 +96,7 @@ last_new p false true s e = refl
 last_new p false false s e = rw e refl
 
 -- a statement more is new where none before is the same
-distinct_more : (statements : List Statement) (s : Statement) → distinct (statements ++ s ∷ []) ≡ distinct statements ++ cond (list_any (λ other. same_statement other s) statements) [] (s ∷ [])
+pub distinct_more : (statements : List Statement) (s : Statement) → distinct (statements ++ s ∷ []) ≡ distinct statements ++ cond (list_any (λ other. same_statement other s) statements) [] (s ∷ [])
 distinct_more [] s = refl
 distinct_more (x ∷ statements) s =
     let p = λ (other : Statement). not (same_statement x other) in

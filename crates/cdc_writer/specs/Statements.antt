@@ -1,5 +1,6 @@
 -- Statements of branches, one branch after another.
-use Rattle.std.specs.Prelude.{◌+◌, ◌^◌, ◌≤◌, Bool, false, List, [], ◌∷◌, length, map, if◌then◌else◌, Option, Some, None, is_none}
+use Rattle.std.specs.Prelude.{ℕ, ◌+◌, ◌^◌, ◌≤◌, Bool, false, List, [], ◌∷◌, ◌++◌, length, map, if◌then◌else◌, Option, Some, None, is_none}
+use denote.Ref.{Bor}
 use Rattle.std.specs.List.{list_any}
 use Rattle.cdc_base.specs.declared.rename.Rename.{Rename}
 use Rattle.cdc_model.specs.Records.{Row, CommittedBranch}
@@ -36,3 +37,13 @@ pub record IsShort (statement : Statement) : Type 0 where
 -- the events of all statements, each statement once
 abbrev pub all_statement_events : List CommittedBranch → List Row
 all_statement_events branches = map statement_event (distinct (statements_of branches))
+
+-- the statements that a set keeps, each as its database and its text
+abbrev pub told : List (Bor (List ℕ) × Bor (List ℕ)) → List Statement
+told statements = map (λ (statement : Bor (List ℕ) × Bor (List ℕ)). (statement.0.now, statement.1.now)) statements
+
+-- a branch's statement behind the others where it has one that isn't among them
+abbrev pub with_statement : Option Statement → List Statement → List Statement
+with_statement None statements = statements
+with_statement (Some statement) statements =
+    if list_any (same_statement statement) statements then statements else statements ++ statement ∷ []

@@ -1,11 +1,13 @@
 //! The length of a transaction's print, counted up to 2^64 - 1.
 
-ghost use Rattle.std.specs.Prelude.{◌≡◌, ◌+◌, ◌-◌, ◌^◌, min};
-ghost use Rattle.cdc_model.specs.Print.{row_events, without_statement, printed_length};
+ghost use Rattle.std.specs.Prelude.{◌≡◌, ◌+◌, ◌-◌, ◌^◌, min, is_some, true};
+ghost use Rattle.std.specs.List.{list_any};
+ghost use Rattle.cdc_model.specs.Print.{branch_statement, distinct, statements_of, row_events, without_statement, printed_length};
 ghost use Rattle.cdc_writer.specs.Events.{events_length, renamed_rows};
-ghost use Rattle.cdc_writer.specs.Statements.{branch_events, statement_events, all_statement_events};
+ghost use Rattle.cdc_writer.specs.Statements.{branch_events, statement_events, all_statement_events, told};
 ghost use Rattle.cdc_writer.specs.Parts.{alone_events, marked_events, behind_events};
 
+use crate::different::{Told, told_length};
 use crate::mark::mark_length;
 use crate::rows::renamed_row_length;
 use crate::statement::{is_among, some_rows, some_statement, statement_of};
@@ -101,20 +103,40 @@ fn behind_length(txn: &Txn, names: &Names) -> u64
     branches_length(txn.branches.as_slice(), names).saturating_add(FRAME_LENGTH)
 }
 
-/// How many bytes a transaction's print has, wherever it stands; 2^64 - 1 where there are more than that.
-/// Takes no memory. Its time is that of the branches, and under rules that of their rows; where branches have
-/// statements, at most that of each pair of branches.
-pub fn print_length(txn: &Txn, names: &Names) -> u64
+// The mark and the statements, whose length is given, and the rows behind them.
+fn with_rows_behind(marked: u64, txn: &Txn, names: &Names) -> u64
+    requires some { list_any (λ branch. is_some (branch_statement branch.rows)) txn.now.branches ≡ true }
+    requires marked { marked ≡ min (events_length (marked_events txn.now)) (2 ^ 64 - 1) }
     ensures { result ≡ min (printed_length names.now txn.now) (2 ^ 64 - 1) }
 {
-    let branches = txn.branches.as_slice();
-    if !some_statement(branches) {
-        return alone_length(txn, names);
-    }
-    let marked = marked_length(txn);
-    if some_rows(branches) {
+    if some_rows(txn.branches.as_slice()) {
         marked.saturating_add(behind_length(txn, names))
     } else {
         marked
     }
+}
+
+/// How many bytes a transaction's print has, whose different statements are given; 2^64 - 1 where there are more than
+/// that.
+pub(crate) fn length_with(statements: &[Told<'_>], txn: &Txn, names: &Names) -> u64
+    requires { told statements.now ≡ distinct (statements_of txn.now.branches) }
+    ensures { result ≡ min (printed_length names.now txn.now) (2 ^ 64 - 1) }
+{
+    if statements.is_empty() {
+        return alone_length(txn, names);
+    }
+    let marked = told_length(statements).saturating_add(mark_length(&txn.key));
+    with_rows_behind(marked, txn, names)
+}
+
+/// How many bytes a transaction's print has, wherever it stands; 2^64 - 1 where there are more than that.
+/// Takes no memory. Its time is that of the branches, and under rules that of their rows; where branches have
+/// statements, at most that of each pair of them, since no set can be kept without memory: `print` and `unit` keep one.
+pub fn print_length(txn: &Txn, names: &Names) -> u64
+    ensures { result ≡ min (printed_length names.now txn.now) (2 ^ 64 - 1) }
+{
+    if !some_statement(txn.branches.as_slice()) {
+        return alone_length(txn, names);
+    }
+    with_rows_behind(marked_length(txn), txn, names)
 }

@@ -7,6 +7,7 @@
 //! stage and by the printer of one file.
 #![tactic(auto)]
 
+mod different;
 mod digits;
 mod event;
 mod head;

@@ -1,17 +1,20 @@
 //! All that one transaction appends to the output, as one run of bytes.
 
 ghost use Rattle.std.specs.Prelude.{ℕ, List, ◌≡◌, ◌+◌, ◌<◌, ◌≤◌, ◌^◌, ◌++◌, [], ◌↔◌, if◌then◌else◌, IsTrue, length, IfOk, IfErr, OnOk};
+ghost use Rattle.std.specs.List.{AllByRecursion};
 ghost use Rattle.cdc_model.specs.Layout.{IsRotation, HasRoom, begins_file, next_file};
 ghost use Rattle.cdc_base.specs.declared.rename.Rename.{Rename};
 ghost use Rattle.cdc_model.specs.Records.{Transaction};
-ghost use Rattle.cdc_model.specs.Print.{printed_length};
+ghost use Rattle.cdc_model.specs.Print.{distinct, statements_of, printed_length};
 ghost use Rattle.cdc_model.specs.Output.{file_head, rotate_event};
 ghost use Rattle.cdc_model.specs.Unit.{unit_of, IsOutputStepFrom};
 ghost use Rattle.cdc_writer.specs.Refusal.{too_large, HasPrintCause};
 ghost use Rattle.cdc_writer.specs.Run.{run_at, unit_at};
+ghost use Rattle.cdc_writer.specs.Statements.{IsShort, told};
 
+use crate::different::Told;
 use crate::head::{HEAD_LENGTH, write_head};
-use crate::printing::{PrintError, length_within};
+use crate::printing::{PrintError, counted};
 use crate::rotate::{put_rotate, rotate_length};
 use crate::spot::{Spot, place};
 use crate::transaction::put_transaction;
@@ -44,18 +47,21 @@ fn put_closing(alloc: Global, spot: &Spot, end: u64, into: &mut Buffer) -> Resul
 fn put_run(
     alloc: Global,
     txn: &Txn,
+    statements: &[Told<'_>],
     names: &Names,
     spot: &Spot,
     length: u64,
     into: &mut Buffer,
 ) -> Result<(), Memory>
     requires file { spot.now.file ≤ 2 ^ 63 }
+    requires statements { told statements.now ≡ distinct (statements_of txn.now.branches) }
+    requires short { AllByRecursion IsShort (told statements.now) }
     requires size { length ≡ printed_length names.now txn.now }
     requires end { spot.now.at + length ≤ 2 ^ 31 }
     ensures { OnOk result (into.new ≡ into.old ++ run_at names.now txn.now spot.now) }
 {
     put_head(spot, into)?;
-    put_transaction(alloc, txn, names, spot.at, into)?;
+    put_transaction(alloc, txn, statements, names, spot.at, into)?;
     put_closing(alloc, spot, spot.at + length, into)
 }
 
@@ -91,15 +97,24 @@ fn room_for(spot: &Spot, printed: u64) -> u64
 }
 
 // Head, print and ROTATE, in a room that is made once.
-fn run_of(alloc: Global, txn: &Txn, names: &Names, spot: &Spot, length: u64) -> Result<Blob, Memory>
+fn run_of(
+    alloc: Global,
+    txn: &Txn,
+    statements: &[Told<'_>],
+    names: &Names,
+    spot: &Spot,
+    length: u64,
+) -> Result<Blob, Memory>
     requires file { spot.now.file ≤ 2 ^ 63 }
+    requires statements { told statements.now ≡ distinct (statements_of txn.now.branches) }
+    requires short { AllByRecursion IsShort (told statements.now) }
     requires most { length ≤ 2 ^ 28 }
     requires size { length ≡ printed_length names.now txn.now }
     requires end { spot.now.at + length ≤ 2 ^ 31 }
     ensures { IfOk result (λ run. run ≡ run_at names.now txn.now spot.now) }
 {
     let mut run = Buffer::with_room(alloc, room_for(spot, length) as usize)?;
-    put_run(alloc, txn, names, spot, length, &mut run)?;
+    put_run(alloc, txn, statements, names, spot, length, &mut run)?;
     run.freeze()
 }
 
@@ -131,7 +146,7 @@ fn unit_with(txn: &Txn, before: &Layout, spot: &Spot, run: Blob) -> cdc_model::U
 /// stands.
 ///
 /// `TooLarge` comes exactly where the print is longer than 2^28 bytes. Each body of a row is copied once, into the
-/// unit's bytes, whose room is made once.
+/// unit's bytes, whose room is made once; equal statements are found by a set.
 pub fn unit(
     alloc: Global,
     txn: &Txn,
@@ -146,9 +161,9 @@ pub fn unit(
     ensures refused { IfErr result (HasPrintCause names.now txn.now) }
     ensures too_large { (result ≡ Err (too_large names.now txn.now)) ↔ (2 ^ 28 < printed_length names.now txn.now) }
 {
-    let length = length_within(txn, names)?;
+    let (statements, length) = counted(alloc, txn, names)?;
     units_are_steps();
     let spot = place(before, rotation, length);
-    let run = run_of(alloc, txn, names, &spot, length)?;
+    let run = run_of(alloc, txn, statements.as_slice(), names, &spot, length)?;
     Ok(unit_with(txn, before, &spot, run))
 }

@@ -1,18 +1,20 @@
 //! The parts of a transaction's print, one behind another.
 
-ghost use Rattle.std.specs.Prelude.{◌≡◌, ◌+◌, ◌<◌, ◌^◌, [], ◌∷◌, ◌++◌, length, take, IfOk, OnOk, OnErr};
-ghost use Rattle.cdc_model.specs.Print.{laid, row_length, printed_event, xid_event, statement_event, rows_behind, without_statement, printed_bytes, printed_length};
+ghost use Rattle.std.specs.Prelude.{◌≡◌, ◌+◌, ◌<◌, ◌^◌, [], ◌∷◌, ◌++◌, length, map, take, IfOk, OnOk, OnErr};
+ghost use Rattle.std.specs.List.{AllByRecursion};
+ghost use Rattle.cdc_model.specs.Print.{laid, row_length, printed_event, xid_event, statement_event, distinct, statements_of, rows_behind, without_statement, printed_bytes, printed_length};
 ghost use Rattle.cdc_writer.specs.Events.{events_length};
-ghost use Rattle.cdc_writer.specs.Statements.{IsShort, statement_events, all_statement_events};
+ghost use Rattle.cdc_writer.specs.Statements.{IsShort, told};
 ghost use Rattle.cdc_writer.specs.Parts.{alone_events, marked_events, behind_events};
 
+use crate::different::Told;
 use crate::event::put_event;
 use crate::mark::put_mark;
 use crate::rows::put_branches;
-use crate::statement::{is_among, some_rows, some_statement, statement_of};
+use crate::statement::some_rows;
 use cdc_base::{Blob, Buffer, Memory};
 use cdc_event::{Body, kind};
-use cdc_model::{Branch, Txn};
+use cdc_model::Txn;
 use cdc_rename::Names;
 use std::alloc::Global;
 
@@ -55,46 +57,24 @@ fn put_xid(number: u64, seconds: u32, at: u64, into: &mut Buffer) -> Result<u64,
     put_event(kind::XID, Body::Xid { number }, seconds, at, into)
 }
 
-// Appends a branch's statement, unless a branch before it has it too.
-fn put_statement(
-    alloc: Global,
-    before: &[Branch],
-    branch: &Branch,
-    seconds: u32,
-    at: u64,
-    into: &mut Buffer,
-) -> Result<u64, Memory>
-    requires { at + events_length (statement_events before.now branch.now) < 2 ^ 32 }
-    ensures next { IfOk result (λ next. next ≡ at + events_length (statement_events before.now branch.now)) }
-    ensures ok { OnOk result (into.new ≡ into.old ++ laid at seconds (statement_events before.now branch.now)) }
-    ensures kept { take (length into.old) into.new ≡ into.old }
-{
-    let Some(statement) = statement_of(&branch.rows) else {
-        return Ok(at);
-    };
-    if is_among(before, &statement) {
-        return Ok(at);
-    }
-    put_query(alloc, statement.database, statement.text, seconds, at, into)
-}
-
-// Appends the branches' statements, each statement once.
+// Appends statements' events, one behind another, and answers the offset behind them.
 fn put_statements(
     alloc: Global,
-    branches: &[Branch],
+    statements: &[Told<'_>],
     seconds: u32,
     at: u64,
     into: &mut Buffer,
 ) -> Result<u64, Memory>
-    requires { at + events_length (all_statement_events branches.now) < 2 ^ 32 }
-    ensures next { IfOk result (λ next. next ≡ at + events_length (all_statement_events branches.now)) }
-    ensures ok { OnOk result (into.new ≡ into.old ++ laid at seconds (all_statement_events branches.now)) }
+    requires short { AllByRecursion IsShort (told statements.now) }
+    requires room { at + events_length (map statement_event (told statements.now)) < 2 ^ 32 }
+    ensures next { IfOk result (λ next. next ≡ at + events_length (map statement_event (told statements.now))) }
+    ensures ok { OnOk result (into.new ≡ into.old ++ laid at seconds (map statement_event (told statements.now))) }
     ensures kept { take (length into.old) into.new ≡ into.old }
 {
     let mut next = at;
-    for (index, branch) in branches.iter().enumerate() {
-        let (before, _) = branches.split_at(index);
-        next = put_statement(alloc, before, branch, seconds, next, into)?;
+    for statement in statements {
+        let (database, text) = *statement;
+        next = put_query(alloc, database, text, seconds, next, into)?;
     }
     Ok(next)
 }
@@ -120,20 +100,22 @@ fn put_alone(
 }
 
 // The mark and the statements.
-fn put_marked(alloc: Global, txn: &Txn, at: u64, into: &mut Buffer) -> Result<u64, Memory>
-    requires { at + events_length (marked_events txn.now) < 2 ^ 32 }
+fn put_marked(
+    alloc: Global,
+    txn: &Txn,
+    statements: &[Told<'_>],
+    at: u64,
+    into: &mut Buffer,
+) -> Result<u64, Memory>
+    requires statements { told statements.now ≡ distinct (statements_of txn.now.branches) }
+    requires short { AllByRecursion IsShort (told statements.now) }
+    requires room { at + events_length (marked_events txn.now) < 2 ^ 32 }
     ensures next { IfOk result (λ next. next ≡ at + events_length (marked_events txn.now)) }
     ensures ok { OnOk result (into.new ≡ into.old ++ laid at txn.now.seconds (marked_events txn.now)) }
     ensures kept { take (length into.old) into.new ≡ into.old }
 {
-    let statements = put_mark(alloc, &txn.key, txn.seconds, at, into)?;
-    put_statements(
-        alloc,
-        txn.branches.as_slice(),
-        txn.seconds,
-        statements,
-        into,
-    )
+    let next = put_mark(alloc, &txn.key, txn.seconds, at, into)?;
+    put_statements(alloc, statements, txn.seconds, next, into)
 }
 
 // The rows behind statements.
@@ -174,22 +156,26 @@ fn put_rows_behind(
     }
 }
 
-/// Appends a transaction's print. On `Memory` a part of it may stand behind what was there.
+/// Appends the print of a transaction with these different statements. On `Memory` a part of it may stand behind what
+/// was there.
 pub(crate) fn put_transaction(
     alloc: Global,
     txn: &Txn,
+    statements: &[Told<'_>],
     names: &Names,
     at: u64,
     into: &mut Buffer,
 ) -> Result<u64, Memory>
-    requires { at + printed_length names.now txn.now < 2 ^ 32 }
+    requires statements { told statements.now ≡ distinct (statements_of txn.now.branches) }
+    requires short { AllByRecursion IsShort (told statements.now) }
+    requires room { at + printed_length names.now txn.now < 2 ^ 32 }
     ensures ok { OnOk result (into.new ≡ into.old ++ printed_bytes names.now txn.now at) }
     ensures kept { take (length into.old) into.new ≡ into.old }
 {
-    if some_statement(txn.branches.as_slice()) {
-        let rows = put_marked(alloc, txn, at, into)?;
-        put_rows_behind(alloc, txn, names, rows, into)
-    } else {
+    if statements.is_empty() {
         put_alone(alloc, txn, names, at, into)
+    } else {
+        let rows = put_marked(alloc, txn, statements, at, into)?;
+        put_rows_behind(alloc, txn, names, rows, into)
     }
 }

@@ -54,6 +54,33 @@ fn what_is_written_is_read_by_another_disk(rt: HostRuntime) -> Result<(), Fail> 
     Ok(())
 }
 
+// Writes into a fresh folder: one behind another, over each other, in turns into two files, and one that is long.
+fn write_in_turns(rt: &HostRuntime, disk: &mut FileDisk<&HostRuntime, File>) -> Result<(), Fail> {
+    let long = vec![in rt.alloc(); 7u8; 70_000]?;
+    disk.write_at(DiskFile::Log(1), 0, b"abc")?;
+    disk.write_at(DiskFile::Log(1), 3, b"de")?;
+    disk.write_at(DiskFile::Log(1), 1, b"BC")?;
+    disk.write_at(DiskFile::Log(2), 0, b"x")?;
+    disk.write_at(DiskFile::Log(1), 5, b"f")?;
+    disk.write_at(DiskFile::Log(3), 0, b"y")?;
+    disk.write_at(DiskFile::Log(3), 1, &long)?;
+    disk.write_at(DiskFile::Log(3), 70_001, b"z")?;
+    Ok(())
+}
+
+#[test]
+fn writes_are_read_before_they_are_synced(rt: HostRuntime) -> Result<(), Fail> {
+    let mut disk = over(&rt, "turns")?;
+    write_in_turns(&rt, &mut disk)?;
+    let first = has(&mut disk, DiskFile::Log(1), b"aBCdef")?;
+    let second = has(&mut disk, DiskFile::Log(2), b"x")?;
+    let third = disk.length(DiskFile::Log(3))?;
+    let mut last = [0u8; 2];
+    let read = disk.read_at(DiskFile::Log(3), 70_000, &mut last)?;
+    assert!(rt; first && second && third == 70_002 && read == 2 && last == *b"\x07z");
+    Ok(())
+}
+
 #[test]
 fn files_have_their_names(rt: HostRuntime) -> Result<(), Fail> {
     fill(&rt, "store")?;

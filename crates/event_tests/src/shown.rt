@@ -4,7 +4,7 @@ ghost use Rattle.std.specs.Prelude.{◌≡◌, ◌≤◌, ◌+◌, length};
 ghost use Rattle.cdc_event.specs.Length.{HasGoodLength};
 
 use cdc_base::Blob;
-use cdc_event::{Event, Header, ReadError, check_length, read_body, read_owned_body, read_view};
+use cdc_event::{Event, Header, ReadError, check_length, read_owned_body, read_view};
 use cdc_samples::blobs::blob_of;
 use cdc_samples::events::header;
 use std::alloc::{AllocError, Global};
@@ -40,22 +40,24 @@ fn is_seen(
     Ok(seen == wanted)
 }
 
-// What a header and a body are read as, by a shared body and by one that is given away: one text where both are the same.
-fn read_both(alloc: Global, header: &Header, body: Blob, checksum: u8) -> Result<String, AllocError>
+// What a header and a body are read as, by a body that is given away and in place: one text where both are the same.
+fn read_both(
+    alloc: Global,
+    header: &Header,
+    bytes: &[u8],
+    body: Blob,
+    checksum: u8,
+) -> Result<String, AllocError>
     requires setting { checksum ≤ 1 }
     requires length { HasGoodLength checksum header.now }
-    requires whole { header.now.length ≡ 19 + length body }
+    requires whole { header.now.length ≡ 19 + length bytes.now }
+    requires same { body ≡ bytes.now }
 {
-    let read = read_body(header, &body, checksum);
-    if !is_seen(alloc, header, body.bytes(), checksum, &read)? {
-        return format!(in alloc; "another event in place");
-    }
-    let shared = shown(alloc, read)?;
-    let owned = shown(alloc, read_owned_body(header, body, checksum))?;
-    if shared == owned {
-        Ok(shared)
+    let read = read_owned_body(header, body, checksum);
+    if is_seen(alloc, header, bytes, checksum, &read)? {
+        shown(alloc, read)
     } else {
-        format!(in alloc; "{shared} of a shared body and {owned} of an owned one")
+        format!(in alloc; "another event in place")
     }
 }
 
@@ -73,8 +75,8 @@ pub fn answer(alloc: Global, kind: u8, bytes: &[u8], checksum: u8) -> Result<Str
         return shown(alloc, Err(ReadError::Fault(fault)));
     }
     match blob_of(alloc, bytes) {
-        Ok(body) if body.len() + 19 == header.length as usize => {
-            read_both(alloc, &header, body, checksum)
+        Ok(body) if bytes.len() + 19 == header.length as usize => {
+            read_both(alloc, &header, bytes, body, checksum)
         }
         _ => shown(alloc, Err(ReadError::Memory)),
     }

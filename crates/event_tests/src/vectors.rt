@@ -4,7 +4,7 @@ ghost use Rattle.std.specs.Prelude.{IfOk};
 ghost use Rattle.cdc_event.specs.Event.{IsEvent};
 
 use cdc_base::{Blob, Buffer};
-use cdc_event::{Event, check_length, read_body, read_header, write_event};
+use cdc_event::{Event, check_length, read_header, read_owned_body, write_event};
 use cdc_samples::blobs::blob_of;
 use std::alloc::Global;
 use std::process::Abort;
@@ -35,7 +35,7 @@ fn read(bytes: &Blob) -> Result<Event, Fail>
         return Err("another length")?;
     }
     let body = bytes.part(19, bytes.len())?;
-    let event = read_body(&header, &body, 0)?;
+    let event = read_owned_body(&header, body, 0)?;
     Ok(event)
 }
 

@@ -2,17 +2,17 @@
 
 ghost use Rattle.std.specs.Prelude.{◌≡◌, ℕ, List, Some, IsTrue, length, IfOk};
 ghost use Rattle.cdc_config.specs.Words.{command_from};
+ghost use Rattle.cdc_memory.specs.Source.{held_files};
 
-use crate::expected::printed;
 use cdc_base::{Buffer, Memory, Text, TextList};
 use cdc_config::{Command, Refusal, command_of};
-use cdc_memory::{MemSink, MemSource};
+use cdc_memory::{MemDisk, MemSink, MemSource};
 use cdc_samples::{Log, NotMade};
 use cdc_top::top;
 use std::alloc::Global;
 
 /// The most bytes of a file and of what is written.
-pub const ROOM: usize = 2_000_000;
+pub const ROOM: usize = 4_000_000;
 
 /// A call: its sources, the room of `out`, the writes to it that fail, and the room of `err`.
 #[derive(Drop)]
@@ -49,7 +49,9 @@ pub fn call_of(alloc: Global, nodes: Vec<MemSource>) -> Call {
 }
 
 /// A source of one file, whose listed calls fail.
-pub fn source_of(alloc: Global, file: &[u8], fails: &[u64]) -> Result<MemSource, Memory> {
+pub fn source_of(alloc: Global, file: &[u8], fails: &[u64]) -> Result<MemSource, Memory>
+    ensures { IfOk result (λ source. length (held_files source) ≡ 1) }
+{
     if file.len() > ROOM {
         return Err(Memory);
     }
@@ -77,8 +79,8 @@ pub fn print_words(alloc: Global, files: usize) -> Result<TextList, Memory> {
     Ok(words)
 }
 
-// Whether there is a source a file where the words are `print`.
-fn fits(alloc: Global, words: &[Text], nodes: usize) -> Result<bool, Memory>
+/// Whether there is a source a file where the words are `print`.
+pub fn fits(alloc: Global, words: &[Text], nodes: usize) -> Result<bool, Memory>
     ensures { IfOk result (λ fits. IsTrue fits → (files : List (List ℕ)) → command_from words.now ≡ Some (Command.Print files) → nodes ≡ length files) }
 {
     match command_of(alloc, words) {
@@ -89,7 +91,7 @@ fn fits(alloc: Global, words: &[Text], nodes: usize) -> Result<bool, Memory>
     }
 }
 
-/// Calls with any words. Where they are `print`, there is to be a source a file.
+/// Calls with any words, an empty configuration and no outs. Where they are `print`, there is to be a source a file.
 pub fn call_with(alloc: Global, words: &[Text], call: Call) -> Result<Seen, Memory> {
     let mut nodes = call.nodes;
     if !fits(alloc, words, nodes.len())? {
@@ -97,7 +99,19 @@ pub fn call_with(alloc: Global, words: &[Text], call: Call) -> Result<Seen, Memo
     }
     let mut out = MemSink::new(alloc, call.room, call.out_fails.as_slice())?;
     let mut err = MemSink::new(alloc, call.err_room, &[])?;
-    let status = top(alloc, words, &mut nodes, &mut out, &mut err);
+    let mut config = source_of(alloc, b"", &[])?;
+    let mut outs: Vec<MemDisk> = Vec::new(alloc);
+    let mut task = MemDisk::new(alloc, 1, 0, 0, &[])?;
+    let status = top(
+        alloc,
+        words,
+        &mut config,
+        &mut nodes,
+        &mut outs,
+        &mut task,
+        &mut out,
+        &mut err,
+    );
     Ok(Seen { status, out, err })
 }
 
@@ -120,33 +134,14 @@ pub fn source_in(alloc: Global, words: &str) -> Result<MemSource, NotMade> {
     Ok(source_of(alloc, log.bytes(), &[])?)
 }
 
-/// Sources of the logs of these words, one a node.
-pub fn sources_of(alloc: Global, logs: &[&str]) -> Result<Vec<MemSource>, NotMade> {
+/// Sources of the logs of these words, one a node, with `|` between them.
+pub fn sources_of(alloc: Global, logs: &str) -> Result<Vec<MemSource>, NotMade> {
     let mut nodes = Vec::new(alloc);
-    for words in logs {
+    for words in logs.split("|") {
         let source = source_in(alloc, words)?;
         if nodes.push(source).is_err() {
             return Err(NotMade::Memory);
         }
     }
     Ok(nodes)
-}
-
-/// Logs of nodes, and what printing them gives.
-#[derive(Clone, Copy)]
-pub struct Case<'a> {
-    /// The words of each node's log.
-    pub logs: &'a [&'a str],
-    pub status: u8,
-    /// The marks of the transactions that are printed.
-    pub marks: &'a [&'a [u8]],
-    pub line: &'a [u8],
-}
-
-/// Whether the logs of a case give what it says.
-pub fn holds(alloc: Global, case: &Case) -> Result<bool, NotMade> {
-    let nodes = sources_of(alloc, case.logs)?;
-    let want = printed(alloc, case.marks)?;
-    let seen = print_all(alloc, call_of(alloc, nodes))?;
-    Ok(seen.is(case.status, want.bytes(), case.line))
 }

@@ -1,7 +1,8 @@
-//! The files that are expected: heads, and the prints of transactions without rows.
+//! The files that are expected: heads, and the prints of transactions.
 
 use cdc_base::{Buffer, Memory};
-use std::alloc::Global;
+use std::alloc::{AllocError, Global};
+use std::test::Fail;
 
 /// The first 123 bytes of each file: the magic, and a format event of version 4 that names no checksum.
 pub const HEAD: [u8; 123] = *b"\xfebin\
@@ -13,6 +14,17 @@ pub const HEAD: [u8; 123] = *b"\xfebin\
     \x38\x0d\x00\x08\x00\x12\x00\x04\x04\x04\x04\x12\x00\x00\x5f\x00\x04\x1a\x08\
     \x00\x00\x00\x08\x08\x08\x02\x00\x00\x00\x0a\x0a\x0a\x2a\x2a\x00\x12\x34\x00\
     \x00\x00\x00\x00\x00";
+
+/// The body of a table map of d1.t1 with one column, and what one with a column's sign has behind it.
+const TABLE: &[u8] = b"\x01\0\0\0\0\0\x01\0\x02d1\0\x02t1\0\x01\x03\0\x01";
+
+const SIGNED_TABLE: &[u8] = b"\x01\0\0\0\0\0\x01\0\x02d1\0\x02t1\0\x01\x03\0\x01\x01\x01\0";
+
+/// The body of a row event of the value 1.
+const ROW: &[u8] = b"\x01\0\0\0\0\0\x01\0\x02\0\x01\xff\0\x01\0\0\0";
+
+/// The body of a query of the statement's text in the database d1.
+const STATEMENT: &[u8] = b"\0\0\0\0\0\0\0\0\x02\0\0\0\0d1\0CREATE TABLE t (a INT)";
 
 // One event more, of seconds 5 and server 1.
 fn push_event(file: &mut Buffer, kind: u8, body: &[u8]) -> Result<(), Memory> {
@@ -33,35 +45,148 @@ fn four_bytes(length: usize) -> [u8; 4] {
     }
 }
 
-/// One printed transaction more: the query `BEGIN`, its mark as a text, and an XID event with its number.
-pub fn push_printed(
-    alloc: Global,
-    file: &mut Buffer,
-    number: u64,
-    mark: &[u8],
-) -> Result<(), Memory> {
-    push_event(file, 2, b"\0\0\0\0\0\0\0\0\0\0\0\0\0\0BEGIN")?;
+// The query `BEGIN`.
+fn push_begin(file: &mut Buffer) -> Result<(), Memory> {
+    push_event(file, 2, b"\0\0\0\0\0\0\0\0\0\0\0\0\0\0BEGIN")
+}
+
+// The event of a mark.
+fn push_mark(alloc: Global, file: &mut Buffer, mark: &[u8]) -> Result<(), Memory> {
     let mut body = Buffer::new(alloc);
     match u8::try_from(mark.len()) {
         Ok(length) => body.push(&[length])?,
         Err(_) => body.push(&[255])?,
     }
     body.push(mark)?;
-    push_event(file, 29, body.bytes())?;
+    push_event(file, 29, body.bytes())
+}
+
+/// One printed transaction without rows more: the query `BEGIN`, its mark as a text, and an XID event with its number.
+pub fn push_printed(
+    alloc: Global,
+    file: &mut Buffer,
+    number: u64,
+    mark: &[u8],
+) -> Result<(), Memory> {
+    push_begin(file)?;
+    push_mark(alloc, file, mark)?;
     push_event(file, 16, &number.to_le_bytes())
 }
 
-/// The printed file of transactions with these marks, numbered from 1; no byte where there is none.
-pub fn printed(alloc: Global, marks: &[&[u8]]) -> Result<Buffer, Memory> {
+// The mark of a key in words.
+fn mark_of(alloc: Global, key: &str) -> Result<String, Fail> {
+    match key.split_once(":") {
+        Some((timestamp, id)) => {
+            let timestamp = timestamp.parse::<u64>()?;
+            Ok(format!(in alloc; "CTS::{timestamp:019}::0::{id}")?)
+        }
+        None => local_mark_of(alloc, key),
+    }
+}
+
+// The mark of a local key in words.
+fn local_mark_of(alloc: Global, key: &str) -> Result<String, Fail> {
+    let (timestamp, place) = key.split_once("@").ok_or("a key of no kind")?;
+    let (node, entry) = place.split_once(".").ok_or("a local key without an entry")?;
+    let timestamp = timestamp.parse::<u64>()?;
+    let node = node.parse::<u64>()?;
+    let entry = entry.parse::<u64>()?;
+    Ok(format!(in alloc; "CTS::{timestamp:019}::1::{node:05}{entry:020}")?)
+}
+
+// The rows behind a key: a table map and a row event for each `+`, with a column's sign for each `*`.
+fn push_rows(file: &mut Buffer, signs: &str) -> Result<(), Memory> {
+    for sign in signs.bytes() {
+        let table = if sign == b'*' { SIGNED_TABLE } else { TABLE };
+        push_event(file, 19, table)?;
+        push_event(file, 30, ROW)?;
+    }
+    Ok(())
+}
+
+// `BEGIN`, rows, an XID event with the number.
+fn push_bare(file: &mut Buffer, number: u64, signs: &str) -> Result<(), Memory> {
+    push_begin(file)?;
+    push_rows(file, signs)?;
+    push_event(file, 16, &number.to_le_bytes())
+}
+
+// A print of a statement: its mark, the statement, and where there are rows besides, these behind it.
+fn push_statement(
+    alloc: Global,
+    file: &mut Buffer,
+    number: u64,
+    mark: &[u8],
+    signs: &str,
+) -> Result<(), Memory> {
+    push_mark(alloc, file, mark)?;
+    push_event(file, 2, STATEMENT)?;
+    if signs.is_empty() {
+        return Ok(());
+    }
+    push_bare(file, number, signs)
+}
+
+// A print of rows, with the mark behind them.
+fn push_whole(
+    alloc: Global,
+    file: &mut Buffer,
+    number: u64,
+    mark: &[u8],
+    signs: &str,
+) -> Result<(), Memory> {
+    push_begin(file)?;
+    push_rows(file, signs)?;
+    push_mark(alloc, file, mark)?;
+    push_event(file, 16, &number.to_le_bytes())
+}
+
+// Where the signs behind a key begin.
+fn key_length(word: &str) -> usize {
+    let mut length = 0usize;
+    for byte in word.bytes() {
+        if byte == b'+' || byte == b'*' || byte == b'!' {
+            return length;
+        }
+        length = length.saturating_add(1);
+    }
+    length
+}
+
+/// One printed transaction more, in a word: `10:6731`, of the timestamp 10 and the id `67 31`, or `10@1.2`, of node 1
+/// and its entry 2; behind it a `+` for each table map with its row event, `*` where the table map has 42 bytes, and
+/// first a `!` where a statement is printed.
+fn push_word(alloc: Global, file: &mut Buffer, number: u64, word: &str) -> Result<(), Fail> {
+    let length = key_length(word);
+    let key = word.get(..length).ok_or("a word is cut")?;
+    let signs = word.get(length..).ok_or("a word is cut")?;
+    let mark = mark_of(alloc, key)?;
+    match signs.strip_prefix("!") {
+        Some(rest) => push_statement(alloc, file, number, mark.as_bytes(), rest)?,
+        None => push_whole(alloc, file, number, mark.as_bytes(), signs)?,
+    }
+    Ok(())
+}
+
+/// The printed file of transactions in words, numbered from 1; no byte where there is none.
+pub fn printed(alloc: Global, words: &str) -> Result<Buffer, Fail> {
     let mut file = Buffer::new(alloc);
-    if marks.is_empty() {
+    if words.is_empty() {
         return Ok(file);
     }
     file.push(&HEAD)?;
     let mut number = 0u64;
-    for mark in marks {
+    for word in words.split_whitespace() {
         number = number.saturating_add(1);
-        push_printed(alloc, &mut file, number, mark)?;
+        push_word(alloc, &mut file, number, word)?;
     }
     Ok(file)
+}
+
+/// The line of an answer, none where there is no text.
+pub fn line_of(alloc: Global, text: &str) -> Result<String, AllocError> {
+    if text.is_empty() {
+        return Ok(String::new(alloc));
+    }
+    format!(in alloc; "cdc: {text}\n")
 }

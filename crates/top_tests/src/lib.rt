@@ -1,4 +1,4 @@
-//! Tests of the top call over sources and sinks in memory.
+//! Tests of the top call over sources, disks and sinks in memory.
 //!
 //! They show that calls succeed with ample memory, which no clause can say, and compare what is written with bytes
 //! that were typed or counted by hand.
@@ -11,10 +11,24 @@ mod expected;
 #[cfg(test)]
 mod fault_tests;
 #[cfg(test)]
-mod log_tests;
+mod large_tests;
+#[cfg(test)]
+mod line_tests;
+#[cfg(test)]
+mod list_tests;
+#[cfg(test)]
+mod listing;
 #[cfg(test)]
 mod many;
 #[cfg(test)]
 mod node_tests;
+#[cfg(test)]
+mod piece_tests;
+#[cfg(test)]
+mod row_tests;
+#[cfg(test)]
+mod sink_tests;
+#[cfg(test)]
+mod table;
 #[cfg(test)]
 mod word_tests;

@@ -1,79 +1,12 @@
-//! The logs of several nodes.
+//! The files of one node, and many nodes.
 
-use crate::call::{Case, call_of, holds, print_all, source_of};
-use crate::expected::{HEAD, push_printed};
-use cdc_base::{Buffer, Memory};
+use crate::call::{Seen, call_of, print_all, source_of};
+use crate::expected::{HEAD, printed, push_printed};
+use cdc_base::{Blob, Buffer, Memory};
 use cdc_memory::MemSource;
 use cdc_samples::{Log, NotMade};
 use std::alloc::Global;
 use std::test::Fail;
-
-const NONE: &str = "H";
-
-const FIRST: &str = "H P(g1) C(g1,10)";
-
-const TIED: &str = "H P(g2) C(g2,10)";
-
-const LATER: &str = "H P(g3) C(g3,9) P(g4) C(g4,20)";
-
-const LOCAL: &str = "H L";
-
-const BEAT: &str = "H B(1)";
-
-const ONE: &[u8] = b"CTS::0000000000000000010::0::6731";
-
-const TWO: &[u8] = b"CTS::0000000000000000010::0::6732";
-
-const THREE: &[u8] = b"CTS::0000000000000000009::0::6733";
-
-const FOUR: &[u8] = b"CTS::0000000000000000020::0::6734";
-
-// The tables of cases, by what they show.
-const SETTLED: [(&[&str], &[&[u8]]); 8] = [
-    (&[FIRST, FIRST], &[ONE]),
-    (&[FIRST, TIED], &[ONE, TWO]),
-    (&[TIED, FIRST], &[ONE, TWO]),
-    (&[FIRST, NONE], &[]),
-    (&["", FIRST], &[]),
-    (&[LATER, TIED], &[THREE, TWO]),
-    (&[FIRST, LATER, TIED], &[THREE, ONE, TWO]),
-    (&[LATER, LATER], &[THREE, FOUR]),
-];
-
-const OUT_OF_FORM: [(&[&str], &[u8]); 4] = [
-    (&[FIRST, LOCAL, BEAT], b"cdc: node 2 not yet\n"),
-    (&[BEAT, LOCAL, FIRST], b"cdc: node 1 not yet\n"),
-    (&[FIRST, FIRST, BEAT], b"cdc: node 3 not yet\n"),
-    (&[FIRST, LOCAL], b"cdc: node 2 not yet\n"),
-];
-
-#[test]
-fn the_least_mark_of_all_nodes_settles(rt: HostRuntime) -> Result<(), Fail> {
-    for (logs, marks) in SETTLED {
-        let case = Case {
-            logs,
-            status: 0,
-            marks,
-            line: b"",
-        };
-        assert!(rt; holds(rt.alloc(), &case)?);
-    }
-    Ok(())
-}
-
-#[test]
-fn the_least_node_out_of_form_is_named(rt: HostRuntime) -> Result<(), Fail> {
-    for (logs, line) in OUT_OF_FORM {
-        let case = Case {
-            logs,
-            status: 3,
-            marks: &[],
-            line,
-        };
-        assert!(rt; holds(rt.alloc(), &case)?);
-    }
-    Ok(())
-}
 
 // A source of one pair at 7, whose id is one byte.
 fn one_pair(alloc: Global, id: u8) -> Result<MemSource, NotMade> {
@@ -115,5 +48,55 @@ fn ids_order_256_nodes_of_one_timestamp(rt: HostRuntime) -> Result<(), Fail> {
     let want = printed_ids(rt.alloc())?;
     let seen = print_all(rt.alloc(), call_of(rt.alloc(), nodes))?;
     assert!(rt; seen.is(0, want.bytes(), b""));
+    Ok(())
+}
+
+// Prints a node of this source.
+fn print_source(alloc: Global, source: MemSource) -> Result<Seen, Memory> {
+    let mut nodes = Vec::new(alloc);
+    nodes.push(source)?;
+    print_all(alloc, call_of(alloc, nodes))
+}
+
+// Prints a node of two files in words.
+fn print_two(alloc: Global, first: &str, second: &str) -> Result<Seen, Fail> {
+    let first = Log::of(alloc, first)?.freeze()?;
+    let second = Log::of(alloc, second)?.freeze()?;
+    if first.len() > 1000 || second.len() > 1000 {
+        return Err("files of this length are no test")?;
+    }
+    let source = MemSource::new(alloc, &[first, second], &[])?;
+    Ok(print_source(alloc, source)?)
+}
+
+#[test]
+fn a_node_without_bytes_has_no_entries(rt: HostRuntime) -> Result<(), Fail> {
+    let none = MemSource::new(rt.alloc(), &[], &[])?;
+    let seen = print_source(rt.alloc(), none)?;
+    assert!(rt; seen.is(0, b"", b""));
+    let empty = MemSource::new(rt.alloc(), &[Blob::empty(), Blob::empty()], &[])?;
+    let seen = print_source(rt.alloc(), empty)?;
+    assert!(rt; seen.is(0, b"", b""));
+    Ok(())
+}
+
+#[test]
+fn a_branch_goes_over_two_files(rt: HostRuntime) -> Result<(), Fail> {
+    let want = printed(rt.alloc(), "10:6731")?;
+    let seen = print_two(rt.alloc(), "H P(g1)", "H C(g1,10)")?;
+    assert!(rt; seen.is(0, want.bytes(), b""));
+    let seen = print_two(rt.alloc(), "H P(g1)", "M F1 T(10)+ K(g1)+")?;
+    assert!(rt; seen.is(0, want.bytes(), b""));
+    Ok(())
+}
+
+// An unfinished group at a file's end is dropped; a fault stands in the file that has it.
+#[test]
+fn a_group_ends_with_its_file(rt: HostRuntime) -> Result<(), Fail> {
+    let seen = print_two(rt.alloc(), "H S(g1) W", "H E(g1)")?;
+    assert!(rt; seen.is(3, b"", b"cdc: node 1 2:123 OutOfPlace\n"));
+    let want = printed(rt.alloc(), "10:6731")?;
+    let seen = print_two(rt.alloc(), "H P(g1) C(g1,10) S(g2)", "H h(2,18)")?;
+    assert!(rt; seen.is(3, want.bytes(), b"cdc: node 1 2:123 ShortLength 18\n"));
     Ok(())
 }

@@ -5,7 +5,7 @@ use std::test::Fail;
 
 #[test]
 fn words_that_are_no_command_are_refused(rt: HostRuntime) -> Result<(), Fail> {
-    let cases: [&[&str]; 20] = [
+    let cases: [&[&str]; 21] = [
         &[],
         &["print"],
         &["print", "-x"],
@@ -19,7 +19,8 @@ fn words_that_are_no_command_are_refused(rt: HostRuntime) -> Result<(), Fail> {
         &["-h"],
         &["--HELP"],
         &["run", "c"],
-        &["list", "c"],
+        &["list"],
+        &["list", "c", "d"],
         &["serve", "c"],
         &["follow", "c"],
         &["split", "c"],
@@ -39,6 +40,8 @@ fn words_that_are_no_command_are_refused(rt: HostRuntime) -> Result<(), Fail> {
 /// What `--help` writes.
 const HELP: &[u8] =
     b"cdc print FILE ..: print the settled transactions of 1 to 256 nodes, one file a node\n\
+    cdc list CONFIG: print what each output has published\n\
+    cdc serve CONFIG [--connections N]: serve each output's published files at its address\n\
     cdc --help: print the commands\n\
     cdc --version: print the name and the version\n";
 
@@ -78,7 +81,7 @@ fn a_line_that_cannot_be_written_is_let_be(rt: HostRuntime) -> Result<(), Fail> 
     call.err_room = 10;
     let seen = call_with(rt.alloc(), &[], call)?;
     assert!(rt; seen.is(2, b"", b"") && seen.err.faults() == 1);
-    let mut call = call_of(rt.alloc(), sources_of(rt.alloc(), &["H L"])?);
+    let mut call = call_of(rt.alloc(), sources_of(rt.alloc(), "H X")?);
     call.err_room = 0;
     let words = print_words(rt.alloc(), 1)?;
     let seen = call_with(rt.alloc(), words.as_slice(), call)?;

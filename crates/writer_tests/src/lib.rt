@@ -17,4 +17,6 @@ mod samples;
 #[cfg(test)]
 mod spots;
 #[cfg(test)]
+mod statements;
+#[cfg(test)]
 mod units;

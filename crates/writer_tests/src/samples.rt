@@ -53,8 +53,13 @@ pub fn begins_with_head(bytes: &[u8]) -> bool {
         && part(bytes, 79, 123) == HEAD_BACK
 }
 
-// A branch with one marked text, unless the text is empty.
-fn add_text(alloc: Global, branches: &mut BranchList, key: &Key, text: &[u8]) -> Result<(), Memory>
+/// A branch more with one marked text, unless the text is empty or longer than 1,000 bytes.
+pub fn add_text(
+    alloc: Global,
+    branches: &mut BranchList,
+    key: &Key,
+    text: &[u8],
+) -> Result<(), Memory>
     requires { IsKeptKey key.now }
 {
     if text.is_empty() || text.len() > 1000 {

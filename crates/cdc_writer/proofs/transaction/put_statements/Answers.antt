@@ -1,27 +1,31 @@
-use Rattle.std.proofs.Common.{◌+◌, take, arith}
-use Rattle.cdc_writer.specs.Statements.{statement_events, all_statement_events}
-use Rattle.cdc_writer.proofs.Laid.{left_all, left_is, left_many, left_none, some_within}
-use Rattle.cdc_writer.proofs.StatementsOnce.{left_events, left_start, left_first, left_end}
+use Rattle.std.proofs.Common.{◌+◌, drop, get_or, refl, arith}
+use Rattle.cdc_model.specs.Print.{statement_event}
+use Rattle.cdc_writer.proofs.Laid.{left_all, left_is, left_more, left_none, event_within}
+use Rattle.cdc_writer.proofs.StatementSets.{tell, nothing, told_events, told_first, told_none, told_short}
 use Rattle.cdc_writer.proofs.transaction.put_statements.Goals as goal
 
-pub loop-index-init : goal.loop-index-init
-loop-index-init c = left_all _ _ _ _ _ (left_start c.args.branches.now)
+pub loop-statement-init : goal.loop-statement-init
+loop-statement-init c = (left_all _ _ _ _ _ refl, c.requires.short)
 
-pub put_statement-requires : goal.put_statement-requires
-put_statement-requires c =
-    let first = left_first c.args.branches.now c.loop-index.index c.index-branches-index.result c.loop-index-test.true c.index-branches-index.is in
-    let within = some_within c.args.into.now c.loop-index.into c.args.at c.loop-index.next c.args.seconds (all_statement_events c.args.branches.now) (statement_events (take c.loop-index.index c.args.branches.now) c.index-branches-index.result) (left_events c.args.branches.now (c.loop-index.index + 1)) (left_is _ first c.loop-index.invariant) in
-    rw c.split_at.ensures.front (omega (arith, within, c.requires))
+pub put_query-requires-clause-short : goal.put_query-requires-clause-short
+put_query-requires-clause-short c = (told_short c.args.statements.now c.loop-statement.statement-index nothing c.loop-statement-test.true c.loop-statement.invariant.1).0
 
-pub loop-index-preserved : goal.loop-index-preserved
-loop-index-preserved c =
-    let first = left_first c.args.branches.now c.loop-index.index c.index-branches-index.result c.loop-index-test.true c.index-branches-index.is in
-    let ok = rw c.split_at.ensures.front at c.in_ok-next.ensures.ok in
-    let next = rw c.split_at.ensures.front at c.in_ok-next.ensures.next in
-    left_many _ (left_is _ first c.loop-index.invariant) _ _ ok next
+pub put_query-requires-clause-room : goal.put_query-requires-clause-room
+put_query-requires-clause-room c =
+    let first = told_first c.args.statements.now c.loop-statement.statement-index nothing c.loop-statement-test.true in
+    let s = tell (get_or c.args.statements.now c.loop-statement.statement-index nothing) in
+    let within = event_within c.args.into.now c.loop-statement.into c.args.at c.loop-statement.next c.args.seconds (told_events c.args.statements.now) (statement_event s) (told_events (drop (c.loop-statement.statement-index + 1) c.args.statements.now)) (left_is _ first c.loop-statement.invariant.0) in
+    omega (arith, within, c.requires.room)
+
+pub loop-statement-preserved : goal.loop-statement-preserved
+loop-statement-preserved c =
+    let first = told_first c.args.statements.now c.loop-statement.statement-index nothing c.loop-statement-test.true in
+    let short = told_short c.args.statements.now c.loop-statement.statement-index nothing c.loop-statement-test.true c.loop-statement.invariant.1 in
+    let s = tell (get_or c.args.statements.now c.loop-statement.statement-index nothing) in
+    (left_more (statement_event s) (left_is _ first c.loop-statement.invariant.0) _ _ c.in_ok-next.ensures.ok c.in_ok-next.ensures.next, short.1)
 
 pub returns-clause-next : goal.returns-clause-next
-returns-clause-next c = (left_none (left_is _ (left_end c.args.branches.now c.loop-index.index c.loop-index-test.false) c.loop-index.invariant)).ends
+returns-clause-next c = (left_none (left_is _ (told_none c.args.statements.now c.loop-statement.statement-index c.loop-statement-test.false) c.loop-statement.invariant.0)).ends
 
 pub returns-clause-ok : goal.returns-clause-ok
-returns-clause-ok c = (left_none (left_is _ (left_end c.args.branches.now c.loop-index.index c.loop-index-test.false) c.loop-index.invariant)).bytes
+returns-clause-ok c = (left_none (left_is _ (told_none c.args.statements.now c.loop-statement.statement-index c.loop-statement-test.false) c.loop-statement.invariant.0)).bytes

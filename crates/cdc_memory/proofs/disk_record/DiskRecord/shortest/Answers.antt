@@ -1,6 +1,6 @@
 use Rattle.std.proofs.Common.{◌≡◌, ◌∙◌, sym, ap, take, get_or, length, ◌<◌, List, subst}
 use Rattle.cdc_outside.specs.Disk.{shortest}
-use Rattle.cdc_memory.specs.Replay.{Holding, at_rest, replayed}
+use Rattle.cdc_memory.specs.Replay.{Holding, at_rest, after_steps}
 use Rattle.cdc_memory.specs.declared.disk_record.DiskStep.{DiskStep}
 use Rattle.cdc_memory.proofs.Replays.{replayed_next}
 use Rattle.cdc_memory.proofs.disk_record.DiskRecord.shortest.Goals as goal
@@ -12,5 +12,5 @@ loop-step-preserved c = λ image.
     let items : c.deref-step-items.result.now ≡ steps = c.deref-step-items.ensures.value in
     let within : index < length steps = subst (λ (l : List DiskStep). index < length l) items c.loop-step-test.true in
     let is : c.step-item.result ≡ get_or steps index c.step-item.result = c.step-item.is ∙ ap (λ (l : List DiskStep). get_or l index c.step-item.result) items in
-    c.shortest_after-least.ensures (replayed (at_rest image) (take index steps)) (c.loop-step.invariant image)
+    c.shortest_after-least.ensures (after_steps (at_rest image) (take index steps)) (c.loop-step.invariant image)
     ∙ sym (ap (λ (h : Holding). shortest c.args.synced (h.pending c.args.file)) (replayed_next (at_rest image) steps index c.step-item.result within is))

@@ -1,0 +1,4 @@
+pub mod Standing
+pub mod Rising
+pub mod Behind
+pub mod Points

@@ -1,0 +1,6 @@
+mod Keeping
+mod Results
+mod Carrying
+mod Refusing
+mod Jobs
+mod Published

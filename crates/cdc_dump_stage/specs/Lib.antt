@@ -1,0 +1,5 @@
+pub mod Disks
+pub mod Job
+pub mod JobLaws
+pub mod Standing
+pub mod Taking

@@ -1,0 +1,7 @@
+pub mod FrontBytes
+pub mod Images
+pub mod Growing
+pub mod Cutting
+pub mod Appending
+pub mod Committing
+pub mod Kept

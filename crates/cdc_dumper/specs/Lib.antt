@@ -1,0 +1,4 @@
+pub mod Moves
+pub mod Opening
+pub mod Shape
+pub mod State

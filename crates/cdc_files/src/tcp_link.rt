@@ -1,0 +1,85 @@
+//! A link over a connection.
+
+ghost use Rattle.std.specs.Prelude.{◌≡◌, false, []};
+
+use crate::counted::counted;
+use cdc_outside::{Failed, Link};
+use std::io::{Read, Write};
+use std::net::TcpStream;
+use std::time::Duration;
+
+/// How many seconds a read or a write waits for the client.
+const PATIENCE_SECONDS: u64 = 60;
+
+/// A connection to one client. It sends small writes at once, and a read or write for which the client lets it wait
+/// longer than 60 seconds fails. Where the system refuses such a limit, each call fails.
+#[derive(Drop)]
+pub struct TcpLink {
+    stream: TcpStream,
+    limited: bool,
+    faults: u64,
+}
+
+impl TcpLink {
+    /// A link over this connection, which has not failed.
+    pub fn new(stream: TcpStream) -> TcpLink
+        ensures { ⟦<TcpLink as Link>⟧.faults result ≡ 0 }
+    {
+        // A client that is gone already refuses this; its next read tells.
+        let _at_once = stream.set_nodelay(true);
+        let limited = limit(&stream).is_some();
+        TcpLink {
+            stream,
+            limited,
+            faults: 0,
+        }
+    }
+
+    /// How many calls failed.
+    pub fn faults(&self) -> u64
+        ensures { result ≡ ⟦<TcpLink as Link>⟧.faults self.now }
+    {
+        self.faults
+    }
+}
+
+/// Limits how long a read or a write may wait; none where the system refuses it.
+fn limit(stream: &TcpStream) -> Option<()> {
+    let patience = Some(Duration::from_secs(PATIENCE_SECONDS));
+    stream.set_read_timeout(patience).ok()?;
+    stream.set_write_timeout(patience).ok()
+}
+
+impl Link for TcpLink {
+    ghost use Rattle.cdc_files.specs.Untold.{untold};
+
+    ghost tells = { false };
+
+    ghost input = { λ _. [] };
+
+    ghost left = { λ _. [] };
+
+    ghost written = { λ _. [] };
+
+    ghost faults = { λ link. link.faults };
+
+    ghost left_ends_input = { λ link told. untold told };
+
+    fn read(&mut self, into: &mut [u8]) -> Result<usize, Failed> {
+        let read = if self.limited {
+            self.stream.read(into).ok()
+        } else {
+            None
+        };
+        counted(read, &mut self.faults)
+    }
+
+    fn write(&mut self, bytes: &[u8]) -> Result<(), Failed> {
+        let done = if self.limited {
+            self.stream.write_all(bytes).ok()
+        } else {
+            None
+        };
+        counted(done, &mut self.faults)
+    }
+}

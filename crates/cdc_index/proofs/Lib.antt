@@ -1,0 +1,3 @@
+pub mod ChainLaw
+pub mod ChainLemmas
+pub mod Windows

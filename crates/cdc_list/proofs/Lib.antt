@@ -1,0 +1,4 @@
+pub mod Complete
+mod Ends
+mod Texts
+pub mod Zips

@@ -1,0 +1,15 @@
+pub mod Beginning
+pub mod Accepting
+pub mod Credits
+pub mod Feeding
+pub mod Flags
+pub mod GivenFront
+pub mod MakerSteps
+pub mod Places
+pub mod Preparing
+pub mod Pushing
+pub mod Works
+pub mod Turning
+pub mod Jobs
+pub mod Settling
+pub mod Continuing

@@ -1,0 +1,6 @@
+use Rattle.std.proofs.Common.{◌≡◌, ℕ, ◌<◌, length, get_or, Some, None}
+use Rattle.cdc_item.specs.declared.dump_item.DumpItem.TheVariants.{Unit as OneUnit}
+use Rattle.cdc_merge_stage.proofs.slots.fill_each.Given as goal
+
+abbrev pub invariant-loop-out : goal.invariant-loop-out
+invariant-loop-out l = (length l.slots ≡ length l.fn.slots) × ((k : ℕ) → k < l.out → get_or l.slots k None ≡ Some (OneUnit l.unit))

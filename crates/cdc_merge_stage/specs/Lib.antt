@@ -1,0 +1,5 @@
+pub mod Making
+pub mod MergeLaws
+pub mod Merged
+pub mod Passing
+pub mod Settled

@@ -1,0 +1,12 @@
+use Rattle.std.proofs.Common.{◌≡◌, ◌≤◌, ◌-◌, ◌++◌, length, drop}
+use Rattle.cdc_merger.specs.Feeding.{front_of}
+use Rattle.cdc_merger.proofs.node.Node.share_front.Given as goal
+
+-- what is left decides the rest
+abbrev pub invariant-loop-branch : goal.invariant-loop-branch
+invariant-loop-branch l =
+    (l.index ≤ length l.self.branches)
+    × (l.own ++ front_of l.key (drop l.index l.self.branches) ≡ l.fn.own ++ front_of l.key l.self.branches)
+
+abbrev pub decreases-loop-branch : goal.decreases-loop-branch
+decreases-loop-branch l = length l.self.branches - l.index

@@ -1,0 +1,5 @@
+pub mod Heads
+pub mod Bracket
+pub mod Feeding
+pub mod Rounds
+pub mod Merging

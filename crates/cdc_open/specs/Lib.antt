@@ -1,0 +1,4 @@
+pub mod Standing
+pub mod Floors
+pub mod Table
+pub mod Seen

@@ -1,0 +1,12 @@
+pub mod Outs
+pub mod Checkpoints
+pub mod Steps
+pub mod Flows
+pub mod Passing
+pub mod MorePairs
+pub mod Making
+pub mod FirstCause
+pub mod OutsReady
+pub mod Starting
+pub mod Whole
+pub mod Failing

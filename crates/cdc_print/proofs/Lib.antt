@@ -1,0 +1,9 @@
+pub mod OneMore
+pub mod Feeding
+pub mod Nodes
+pub mod Ends
+pub mod Ending
+pub mod Complete
+pub mod Stepping
+pub mod Settling
+pub mod Written

@@ -1,0 +1,5 @@
+pub mod Waiting
+pub mod Outcome
+pub mod Printed
+pub mod Reading
+pub mod Running

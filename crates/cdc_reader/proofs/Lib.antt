@@ -1,0 +1,11 @@
+pub mod Asked
+pub mod Bodies
+pub mod Finding
+pub mod Following
+pub mod Pieces
+pub mod Leading
+pub mod Sound
+pub mod Reading
+pub mod Steps
+pub mod Filled
+pub mod Begun

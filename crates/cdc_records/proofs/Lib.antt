@@ -1,0 +1,3 @@
+pub mod OnePoint
+pub mod WorkedFront
+pub mod WorkedPoint

@@ -1,0 +1,4 @@
+pub mod Checkpoint
+pub mod Front
+pub mod KeyBytes
+pub mod Published

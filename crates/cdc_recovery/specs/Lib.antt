@@ -1,0 +1,5 @@
+pub mod Checkpoints
+pub mod Growing
+pub mod Laws
+pub mod MoveLaws
+pub mod Outputs

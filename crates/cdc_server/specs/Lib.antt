@@ -1,0 +1,5 @@
+pub mod Doors
+pub mod Ends
+pub mod Links
+pub mod Numbers
+pub mod Server

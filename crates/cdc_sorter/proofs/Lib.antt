@@ -1,0 +1,13 @@
+mod Positions
+mod WaitOrder
+mod Newest
+mod OneOrder
+mod Held
+mod HeldMaps
+mod Resuming
+mod Points
+mod PointSteps
+mod Sweeps
+mod Between
+mod Backs
+mod Steps

@@ -1,0 +1,126 @@
+use Rattle.std.proofs.Common.{Some, ◌∙◌, ap, inl, inr}
+use Rattle.cdc_cell.specs.Reading.{IsLeftAlone}
+use Rattle.cdc_cell.proofs.Alone.{alone_yet}
+use Rattle.cdc_config.specs.declared.command.Command.{Command}
+use Rattle.cdc_list.proofs.Zips.{zip_yet, later_yet}
+use Rattle.cdc_print.specs.Outcome.{run_seen}
+use Rattle.cdc_top.specs.Call.{call_seen, config_seen, outs_seen}
+use Rattle.cdc_top.specs.Words.{help_text, version_text}
+use Rattle.cdc_top.proofs.ListFindings.{list_findings, list_wrote}
+use Rattle.cdc_top.proofs.PrintFindings.{print_findings, print_wrote}
+use Rattle.cdc_top.proofs.TextFindings.{text_findings, help_wrote, version_wrote}
+use Rattle.cdc_top.proofs.top_call.do_words.Goals as goal
+
+pub returns-in-Print-clause-findings : goal.returns-in-Print-clause-findings
+returns-in-Print-clause-findings g c =
+    rw c.findings_of.ensures
+    (print_findings g.S.Source.tells g.K.Sink.tells
+    (call_seen c.args.words.now (run_seen g.S.Source.held g.S.Source.faults g.K.Sink.written g.K.Sink.faults c.args.nodes.now.items c.print_logs.new.nodes.items c.args.out.now c.print_logs.new.out)
+    (config_seen g.C.Source.tells g.C.Source.held g.C.Source.faults c.args.config.now c.args.config.now) (outs_seen g.D.Disk.tells g.D.Disk.seen g.D.Disk.faults c.args.outs.now.items c.args.outs.now.items))
+    c.print_logs.result (_, c.in-Ok.ensures.command ∙ ap (λ (found : Command). Some found) c.in-Print.is) c.print_logs.ensures.ended c.print_logs.ensures.ordered)
+
+pub returns-in-Print-clause-wrote : goal.returns-in-Print-clause-wrote
+returns-in-Print-clause-wrote g c =
+    rw c.findings_of.ensures
+    (print_wrote g.S.Source.tells g.K.Sink.tells
+    (call_seen c.args.words.now (run_seen g.S.Source.held g.S.Source.faults g.K.Sink.written g.K.Sink.faults c.args.nodes.now.items c.print_logs.new.nodes.items c.args.out.now c.print_logs.new.out)
+    (config_seen g.C.Source.tells g.C.Source.held g.C.Source.faults c.args.config.now c.args.config.now) (outs_seen g.D.Disk.tells g.D.Disk.seen g.D.Disk.faults c.args.outs.now.items c.args.outs.now.items))
+    c.print_logs.result (_, c.in-Ok.ensures.command ∙ ap (λ (found : Command). Some found) c.in-Print.is) c.print_logs.ensures.ended)
+
+pub returns-in-List-clause-findings : goal.returns-in-List-clause-findings
+returns-in-List-clause-findings g c =
+    list_findings g.S.Source.tells g.K.Sink.tells
+    (call_seen c.args.words.now (run_seen g.S.Source.held g.S.Source.faults g.K.Sink.written g.K.Sink.faults c.args.nodes.now.items c.args.nodes.now.items c.args.out.now c.list_outs.new.out)
+    (config_seen g.C.Source.tells g.C.Source.held g.C.Source.faults c.args.config.now c.list_outs.new.config) (outs_seen g.D.Disk.tells g.D.Disk.seen g.D.Disk.faults c.args.outs.now.items c.list_outs.new.outs.items))
+    c.list_outs.result (_, c.in-Ok.ensures.command ∙ ap (λ (found : Command). Some found) c.in-List.is) c.list_outs.ensures.ended
+
+pub returns-in-List-clause-wrote : goal.returns-in-List-clause-wrote
+returns-in-List-clause-wrote g c =
+    list_wrote g.S.Source.tells g.K.Sink.tells
+    (call_seen c.args.words.now (run_seen g.S.Source.held g.S.Source.faults g.K.Sink.written g.K.Sink.faults c.args.nodes.now.items c.args.nodes.now.items c.args.out.now c.list_outs.new.out)
+    (config_seen g.C.Source.tells g.C.Source.held g.C.Source.faults c.args.config.now c.list_outs.new.config) (outs_seen g.D.Disk.tells g.D.Disk.seen g.D.Disk.faults c.args.outs.now.items c.list_outs.new.outs.items))
+    c.list_outs.result (_, c.in-Ok.ensures.command ∙ ap (λ (found : Command). Some found) c.in-List.is) c.list_outs.ensures.ended
+
+pub returns-in-Help-clause-findings : goal.returns-in-Help-clause-findings
+returns-in-Help-clause-findings g c =
+    text_findings g.S.Source.tells g.K.Sink.tells
+    (call_seen c.args.words.now (run_seen g.S.Source.held g.S.Source.faults g.K.Sink.written g.K.Sink.faults c.args.nodes.now.items c.args.nodes.now.items c.args.out.now c.write_text.new.out)
+    (config_seen g.C.Source.tells g.C.Source.held g.C.Source.faults c.args.config.now c.args.config.now) (outs_seen g.D.Disk.tells g.D.Disk.seen g.D.Disk.faults c.args.outs.now.items c.args.outs.now.items))
+    help_text c.write_text.result
+    (inl (c.in-Ok.ensures.command ∙ ap (λ (found : Command). Some found) c.in-Help.is))
+    (rw c.help.ensures at c.write_text.ensures.written)
+
+pub returns-in-Help-clause-wrote : goal.returns-in-Help-clause-wrote
+returns-in-Help-clause-wrote g c =
+    help_wrote g.S.Source.tells g.K.Sink.tells
+    (call_seen c.args.words.now (run_seen g.S.Source.held g.S.Source.faults g.K.Sink.written g.K.Sink.faults c.args.nodes.now.items c.args.nodes.now.items c.args.out.now c.write_text.new.out)
+    (config_seen g.C.Source.tells g.C.Source.held g.C.Source.faults c.args.config.now c.args.config.now) (outs_seen g.D.Disk.tells g.D.Disk.seen g.D.Disk.faults c.args.outs.now.items c.args.outs.now.items))
+    c.write_text.result
+    (c.in-Ok.ensures.command ∙ ap (λ (found : Command). Some found) c.in-Help.is)
+    (rw c.help.ensures at c.write_text.ensures.written)
+
+pub returns-in-Version-clause-findings : goal.returns-in-Version-clause-findings
+returns-in-Version-clause-findings g c =
+    text_findings g.S.Source.tells g.K.Sink.tells
+    (call_seen c.args.words.now (run_seen g.S.Source.held g.S.Source.faults g.K.Sink.written g.K.Sink.faults c.args.nodes.now.items c.args.nodes.now.items c.args.out.now c.write_text-in-Version.new.out)
+    (config_seen g.C.Source.tells g.C.Source.held g.C.Source.faults c.args.config.now c.args.config.now) (outs_seen g.D.Disk.tells g.D.Disk.seen g.D.Disk.faults c.args.outs.now.items c.args.outs.now.items))
+    version_text c.write_text-in-Version.result
+    (inr (c.in-Ok.ensures.command ∙ ap (λ (found : Command). Some found) c.in-Version.is))
+    (rw c.version.ensures at c.write_text-in-Version.ensures.written)
+
+pub returns-in-Version-clause-wrote : goal.returns-in-Version-clause-wrote
+returns-in-Version-clause-wrote g c =
+    version_wrote g.S.Source.tells g.K.Sink.tells
+    (call_seen c.args.words.now (run_seen g.S.Source.held g.S.Source.faults g.K.Sink.written g.K.Sink.faults c.args.nodes.now.items c.args.nodes.now.items c.args.out.now c.write_text-in-Version.new.out)
+    (config_seen g.C.Source.tells g.C.Source.held g.C.Source.faults c.args.config.now c.args.config.now) (outs_seen g.D.Disk.tells g.D.Disk.seen g.D.Disk.faults c.args.outs.now.items c.args.outs.now.items))
+    c.write_text-in-Version.result
+    (c.in-Ok.ensures.command ∙ ap (λ (found : Command). Some found) c.in-Version.is)
+    (rw c.version.ensures at c.write_text-in-Version.ensures.written)
+
+pub returns-in-Err-Memory-clause-outs_later : goal.returns-in-Err-Memory-clause-outs_later
+returns-in-Err-Memory-clause-outs_later g c = later_yet g.D.Disk.faults c.args.outs.now.items
+
+pub returns-in-Err-Memory-clause-outs_alone : goal.returns-in-Err-Memory-clause-outs_alone
+returns-in-Err-Memory-clause-outs_alone g c told =
+    zip_yet (IsLeftAlone g.D.Disk.seen g.D.Disk.synced g.D.Disk.pending g.D.Disk.may_leave g.D.Disk.moment g.D.Disk.left_since)
+    (alone_yet g.D.Disk.seen g.D.Disk.synced g.D.Disk.pending g.D.Disk.may_leave g.D.Disk.moment g.D.Disk.left_since (λ disk image left. g.met.D.Disk.only_now disk image told left)) c.args.outs.now.items
+
+pub returns-in-Err-Usage-clause-outs_later : goal.returns-in-Err-Usage-clause-outs_later
+returns-in-Err-Usage-clause-outs_later g c = later_yet g.D.Disk.faults c.args.outs.now.items
+
+pub returns-in-Err-Usage-clause-outs_alone : goal.returns-in-Err-Usage-clause-outs_alone
+returns-in-Err-Usage-clause-outs_alone g c told =
+    zip_yet (IsLeftAlone g.D.Disk.seen g.D.Disk.synced g.D.Disk.pending g.D.Disk.may_leave g.D.Disk.moment g.D.Disk.left_since)
+    (alone_yet g.D.Disk.seen g.D.Disk.synced g.D.Disk.pending g.D.Disk.may_leave g.D.Disk.moment g.D.Disk.left_since (λ disk image left. g.met.D.Disk.only_now disk image told left)) c.args.outs.now.items
+
+pub returns-in-Print-clause-outs_later : goal.returns-in-Print-clause-outs_later
+returns-in-Print-clause-outs_later g c = later_yet g.D.Disk.faults c.args.outs.now.items
+
+pub returns-in-Print-clause-outs_alone : goal.returns-in-Print-clause-outs_alone
+returns-in-Print-clause-outs_alone g c told =
+    zip_yet (IsLeftAlone g.D.Disk.seen g.D.Disk.synced g.D.Disk.pending g.D.Disk.may_leave g.D.Disk.moment g.D.Disk.left_since)
+    (alone_yet g.D.Disk.seen g.D.Disk.synced g.D.Disk.pending g.D.Disk.may_leave g.D.Disk.moment g.D.Disk.left_since (λ disk image left. g.met.D.Disk.only_now disk image told left)) c.args.outs.now.items
+
+pub returns-in-Help-clause-outs_later : goal.returns-in-Help-clause-outs_later
+returns-in-Help-clause-outs_later g c = later_yet g.D.Disk.faults c.args.outs.now.items
+
+pub returns-in-Help-clause-outs_alone : goal.returns-in-Help-clause-outs_alone
+returns-in-Help-clause-outs_alone g c told =
+    zip_yet (IsLeftAlone g.D.Disk.seen g.D.Disk.synced g.D.Disk.pending g.D.Disk.may_leave g.D.Disk.moment g.D.Disk.left_since)
+    (alone_yet g.D.Disk.seen g.D.Disk.synced g.D.Disk.pending g.D.Disk.may_leave g.D.Disk.moment g.D.Disk.left_since (λ disk image left. g.met.D.Disk.only_now disk image told left)) c.args.outs.now.items
+
+pub returns-in-Version-clause-outs_later : goal.returns-in-Version-clause-outs_later
+returns-in-Version-clause-outs_later g c = later_yet g.D.Disk.faults c.args.outs.now.items
+
+pub returns-in-Version-clause-outs_alone : goal.returns-in-Version-clause-outs_alone
+returns-in-Version-clause-outs_alone g c told =
+    zip_yet (IsLeftAlone g.D.Disk.seen g.D.Disk.synced g.D.Disk.pending g.D.Disk.may_leave g.D.Disk.moment g.D.Disk.left_since)
+    (alone_yet g.D.Disk.seen g.D.Disk.synced g.D.Disk.pending g.D.Disk.may_leave g.D.Disk.moment g.D.Disk.left_since (λ disk image left. g.met.D.Disk.only_now disk image told left)) c.args.outs.now.items
+
+pub returns-clause-outs_later : goal.returns-clause-outs_later
+returns-clause-outs_later g c = later_yet g.D.Disk.faults c.args.outs.now.items
+
+pub returns-clause-outs_alone : goal.returns-clause-outs_alone
+returns-clause-outs_alone g c told =
+    zip_yet (IsLeftAlone g.D.Disk.seen g.D.Disk.synced g.D.Disk.pending g.D.Disk.may_leave g.D.Disk.moment g.D.Disk.left_since)
+    (alone_yet g.D.Disk.seen g.D.Disk.synced g.D.Disk.pending g.D.Disk.may_leave g.D.Disk.moment g.D.Disk.left_since (λ disk image left. g.met.D.Disk.only_now disk image told left)) c.args.outs.now.items

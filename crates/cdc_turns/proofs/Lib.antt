@@ -1,0 +1,7 @@
+pub mod Counting
+pub mod Lanewise
+mod NextFlow
+mod OneTurn
+pub mod Pairwise
+mod Stuck
+pub mod Turnings

@@ -1,0 +1,4 @@
+use Rattle.merger_tests.proofs.many_nodes.all_nodes_share_one.Given as goal
+
+abbrev pub ghosts-merged : goal.ghosts-merged
+ghosts-merged g a = record { name = a.blank.name; parts = a.blank.parts }
