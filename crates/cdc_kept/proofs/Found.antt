@@ -25,6 +25,7 @@ record IsLastClosed (number : ℕ) (closed : List (List ℕ)) : Type 0 where
   counted : (last_closed number closed).file ≡ number + length front
   size : (last_closed number closed).length ≡ length file
 
+-- closed files have a last one, which their layout tells
 last_of_closed : (number : ℕ) (first : List ℕ) (closed : List (List ℕ)) → IsLastClosed number (first ∷ closed)
 last_of_closed number first [] = record { front = []; file = first; in_order = refl; counted = omega arith; size = refl }
 last_of_closed number first (other ∷ closed) =
@@ -45,6 +46,7 @@ record IsLastFile (files : List (List ℕ)) (layout : Layout) : Type 0 where
   number : layout.file ≡ length front + 1
   size : layout.length ≡ length file
 
+-- each output that has a file has a last one, which its layout tells
 last_file : (closed : List (List ℕ)) (current : List ℕ) → 1 ≤ (layout_with closed current).file → IsLastFile (closed ++ open_file current) (layout_with closed current)
 last_file [] [] some = absurd (omega (arith, some))
 last_file (first ∷ closed) [] some =
@@ -73,6 +75,7 @@ own_file f image number is =
     ap (λ (b : Bool). if b then take f.length (image (Log number)) else image (Log number)) (eq-eqb number f.file is)
     ∙ ap (λ (n : ℕ). take f.length (image (Log n))) is
 
+-- the file of a Front that a record has
 whole_of_sound : (plan : OutputPlan) (txns : List Transaction) (f : Front) (image : Image) → IsSoundFront f → IsFrontOf plan txns f image → f.length ≤ length (image (Log f.file))
 whole_of_sound plan txns f image sound is =
     let output : Output = output_after plan.rules plan.rotation no_output (take f.count txns) in

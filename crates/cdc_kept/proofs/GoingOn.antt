@@ -55,15 +55,18 @@ goes_on_from_point plan nodes logs dumpers p is all = record {
 
 module _ (law : StartIsRestartPoint) (one : ImageHasOnePoint) (plan : OutputPlan) (nodes : List (List (List ℕ))) (logs : List NodeLog) (outs : List Image) (task : Image) (dumpers : List DumperState)
     (whole : AllZip IsReadWhole nodes logs) (kept : AreKeptBy plan logs outs task) where
+  -- the kept checkpoint is one to go on from, where a pass goes on from one
   by_kept : (point : Option Checkpoint) → HasPoint task point → GoesOnFrom point (published_counts dumpers) → GoesOnSoundly plan logs (start_of_pass nodes point) dumpers
   by_kept None has all = absurd all
   by_kept (Some p) has all = goes_on_from_point plan nodes logs dumpers p (point_is_recoverable one plan logs task kept.point p kept.task_kept has) all
 
+  -- by where the pass begins
   by_start : (start : Start) (point : Option Checkpoint) → HasPoint task point → ((start ≡ Cut) ↔ GoesOnFrom point (published_counts dumpers))
       → GoesOnSoundly plan logs (start_of_pass nodes (used_point start point)) dumpers
   by_start First point has starts = goes_on_from_start law plan nodes logs dumpers whole
   by_start Cut point has starts = by_kept point has (starts.0 refl)
 
+-- a pass that was opened goes on soundly
 pub opened_goes_on : StartIsRestartPoint → ImageHasOnePoint → OpenedGoesOn
 opened_goes_on law one plan nodes logs outs task opened is starts =
     by_start law one plan nodes logs outs task opened.dumpers.items is.whole is.kept opened.start opened.kept is.disks.1 starts

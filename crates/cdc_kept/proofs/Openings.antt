@@ -59,6 +59,7 @@ at_place P [] k x all is = absurd (let e = is in cc)
 at_place P (first ∷ xs) zero x (has, all) is = let same : first ≡ x = cc in subst P same has
 at_place P (first ∷ xs) (suc k) x (has, all) is = at_place P xs k x all is
 
+-- no kept output is refused
 no_output_refused : ImageHasOneFront → (plan : OutputPlan) (txns : List Transaction) (outs : List Image) (out : ℕ) (fault : OpenFault)
     → AllByRecursion (KeepsFrom plan txns 0) outs → IsOutRefused outs out fault → ⊥
 no_output_refused one plan txns outs out fault kept refused =
@@ -83,12 +84,14 @@ pub point_is_recoverable : ImageHasOnePoint → (plan : OutputPlan) (logs : List
 point_is_recoverable one plan logs image point p keeps has =
     subst (λ (o : Option Checkpoint). IfSome o (IsRecoverablePoint plan logs)) (one image point (Some p) keeps.has has) keeps.recoverable
 
+-- a recoverable checkpoint has as many nodes as there are
 no_other_nodes : (plan : OutputPlan) (logs : List NodeLog) (nodes had given : ℕ) (p : Checkpoint) → nodes ≡ length logs → IsRecoverablePoint plan logs p
     → had ≡ length p.nodes → given ≡ nodes → (had ≡ given → ⊥) → ⊥
 no_other_nodes plan logs nodes had given p many is had_is given_is differ =
     let points : length p.nodes ≡ length logs = as_many_points p.last 1 logs p.nodes is.sound.points in
     differ (had_is ∙ (points ∙ (sym many ∙ sym given_is)))
 
+-- a kept task isn't refused
 no_task_refused : ImageHasOnePoint → (plan : OutputPlan) (logs : List NodeLog) (image : Image) (point : Option Checkpoint) (nodes : ℕ) (fault : TaskFault)
     → nodes ≡ length logs → KeepsPoint plan logs point image → IsTaskRefused image nodes plan.rotation fault → ⊥
 no_task_refused one plan logs image point nodes of_task.DiskFault many keeps refused = refused
@@ -110,6 +113,7 @@ used_is_kept : (image : Image) (start : Start) (kept : Option Checkpoint) (p : C
 used_is_kept image First kept p has is = absurd (let e = is in cc)
 used_is_kept image Cut kept p has is = subst (HasPoint image) (sym is) has
 
+-- no log ends before the point from which it is read on
 no_log_behind : ImageHasOnePoint → (plan : OutputPlan) (nodes : List (List (List ℕ))) (logs : List NodeLog) (outs : List Image) (task : Image) (point : Option Checkpoint) (p : Checkpoint)
     → AllZip IsReadWhole nodes logs → KeepsPoint plan logs point task → GoesOnBy outs task (Some p)
     → (number : ℕ) (place end : Place) → IsLogBehind nodes p.nodes number place end → ⊥
@@ -121,6 +125,7 @@ no_log_behind one plan nodes logs outs task point p whole keeps by number place 
 
 module _ (one_front : ImageHasOneFront) (one_point : ImageHasOnePoint) (plan : OutputPlan) (nodes : List (List (List ℕ))) (logs : List NodeLog) (outs : List Image) (task : Image)
     (whole : AllZip IsReadWhole nodes logs) (kept : AreKeptBy plan logs outs task) where
+  -- each cause that isn't a device's failure or want of memory is refuted
   may_answer : (outcome : Outcome) → AnswersDisks outs task (length nodes) plan.rotation (Err outcome) → AnswersLogs outs task nodes (Err outcome) → MayAnswer outcome
   may_answer Done disks sources = disks
   may_answer (Disk out) disks sources = tt
@@ -137,10 +142,12 @@ module _ (one_front : ImageHasOneFront) (one_point : ImageHasOnePoint) (plan : O
   may_answer (Differs out own given) disks sources = disks
   may_answer (Key out own given) disks sources = disks
 
+  -- also where the opening is done
   by_result : (result : Result Opened Outcome) → AnswersDisks outs task (length nodes) plan.rotation result → AnswersLogs outs task nodes result → IfErr result MayAnswer
   by_result (Ok opened) disks sources = tt
   by_result (Err outcome) disks sources = may_answer outcome disks sources
 
+-- kept disks are opened
 pub kept_is_opened : ImageHasOneFront → ImageHasOnePoint → KeptIsOpened
 kept_is_opened one_front one_point plan nodes logs outs task result is =
     by_result one_front one_point plan nodes logs outs task is.whole is.kept result is.disks is.sources

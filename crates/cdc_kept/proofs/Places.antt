@@ -50,6 +50,7 @@ record EndsInFile (file : ℕ) (bytes : List ℕ) (entry : LogEntry) : Type 0 wh
   here : entry.end.file ≡ file
   within : entry.end.at ≤ length bytes
 
+-- an entry ends in the file that it was read from
 ends_in_file : (file : ℕ) (bytes : List ℕ) (before : List LogEntry) (entry : LogEntry) (behind : List LogEntry) (fault : Option (Place × NodeFault))
     → AreFileEntries file bytes (before ++ entry ∷ behind) fault → EndsInFile file bytes entry
 ends_in_file file bytes before entry behind fault (events, ended, read, are) =
@@ -79,13 +80,16 @@ record EndsInFiles (file : ℕ) (files : List (List ℕ)) (entry : LogEntry) : T
   there : index < length files
   within : entry.end.at ≤ length (get_or files index [])
 
+-- in the first of them
 in_first_file : (file : ℕ) (bytes : List ℕ) (files : List (List ℕ)) (entry : LogEntry) → EndsInFile file bytes entry → EndsInFiles file (bytes ∷ files) entry
 in_first_file file bytes files entry ends = record { index = 0; number = omega (arith, ends.here); there = omega arith; within = ends.within }
 
+-- in one behind the first
 in_later_file : (file : ℕ) (bytes : List ℕ) (files : List (List ℕ)) (entry : LogEntry) → EndsInFiles (file + 1) files entry → EndsInFiles file (bytes ∷ files) entry
 in_later_file file bytes files entry ends =
     record { index = suc ends.index; number = omega (arith, ends.number); there = omega (arith, ends.there); within = ends.within }
 
+-- an entry ends in one of the files that it was read from
 ends_in_files : (file : ℕ) (files : List (List ℕ)) (before : List LogEntry) (entry : LogEntry) (behind : List LogEntry) (fault : Option (Place × NodeFault))
     → AreEntriesFrom file files (before ++ entry ∷ behind) fault → EndsInFiles file files entry
 ends_in_files file [] before entry behind fault (none, no_fault) = absurd (some_in before none)
