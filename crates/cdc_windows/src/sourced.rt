@@ -5,7 +5,7 @@ ghost use Rattle.cdc_item.specs.declared.node_item.NodeItem.{NodeItem};
 
 use crate::parts::{MergePart, NodePart};
 use crate::reached::Reached;
-use cdc_base::{Key, Memory};
+use cdc_base::{Key, Memory, key_cmp};
 use cdc_item::NodeItem;
 use cdc_lane::PlainLane;
 use cdc_merge_stage::MergeStage;
@@ -92,14 +92,14 @@ impl<S: Source> NodePart for SourcedNode<S> {
     }
 
     fn cut(&self, last: &Key) -> Result<Option<NodeCut>, Memory> {
-        if self.known > *last {
+        if key_cmp(&self.known, last).is_gt() {
             return Ok(None);
         }
         Ok(Some(self.job.stage().cut(last)?))
     }
 
     fn forget(&mut self, last: &Key) {
-        if *last > self.known {
+        if key_cmp(last, &self.known).is_gt() {
             self.job.forget(last);
             self.known = *last;
         }
