@@ -4,8 +4,10 @@ pub mod Steps
 pub mod Flows
 pub mod Passing
 pub mod MorePairs
+pub mod Forgetting
 pub mod Making
 pub mod FirstCause
+pub mod Behind
 pub mod OutsReady
 pub mod Starting
 pub mod Whole

@@ -19,8 +19,9 @@ use Rattle.cdc_dump_stage.specs.Standing.{IsReadyFor}
 use Rattle.cdc_dump_stage.specs.Job.{StagedDisk, HasGone, dump_account}
 use Rattle.cdc_dump_stage.specs.JobLaws.{gone_nowhere, gone_on}
 use Rattle.cdc_windows.specs.declared.reached.Reached.{Reached}
+use Rattle.cdc_windows.specs.Rereading.{Rereading}
 use Rattle.cdc_windows.specs.Windows.{HasUnits, AreGiven, ReadLogs, IsFlowing, HasRun, RunsOn, KeptWindow, KeepsAll, OutsGoOn}
-use Rattle.cdc_windows.proofs.Flows.{turned_long, nothing_joined}
+use Rattle.cdc_windows.proofs.Flows.{turned_long, nothing_joined, ended_from}
 use Rattle.cdc_windows.proofs.Outs.{outs_go_on}
 use Rattle.cdc_windows.proofs.Steps.{counts_rise, made_sound, task_begins, task_on}
 
@@ -29,7 +30,7 @@ no_units : {A : Type 0} (plan : OutputPlan) (txns : List Transaction) (from : �
 no_units plan txns from [] = tt
 no_units plan txns from (o ∷ olds) = (record { units = tt; many = omega arith }, no_units plan txns from olds)
 
-module _ {N M D : Type 0} (a : Sender N NodeItem) (m : Passer M NodeItem DumpItem) (w : DiskWords D) (may_restart : N → Key → RestartPoint → Type 0) (came : M → Reached) where
+module _ {N M D : Type 0} (a : Sender N NodeItem) (m : Passer M NodeItem DumpItem) (w : DiskWords D) (r : Rereading N) (came : M → Reached) where
   same_outs : ((disk : D) (image : Image) → w.left_since disk (w.moment disk) image → w.may_leave disk image) → (plan : OutputPlan) (txns : List Transaction) (from : ℕ) (dumps : List (StagedDisk D))
       → AllByRecursion (λ (job : StagedDisk D). IsReadyFor w plan txns from job.stage job.disk) dumps → OutsGoOn w plan txns from dumps dumps
   same_outs only_now plan txns from [] ready = tt
@@ -40,22 +41,22 @@ module _ {N M D : Type 0} (a : Sender N NodeItem) (m : Passer M NodeItem DumpIte
       → AllByRecursion (λ (job : StagedDisk D). IsReadyFor w plan (planned_transactions plan logs) from job.stage job.disk) dumps → KeepsAll w plan logs from dumps dumps task task
   keeps_at_first only_now plan logs from dumps task ready = record {
     outs = same_outs only_now plan (planned_transactions plan logs) from dumps ready;
-    task = λ covered each. task_begins w may_restart plan logs only_now from dumps task covered each;
+    task = λ covered each. task_begins w r plan logs only_now from dumps task covered each;
   }
 
   -- what was given so far
-  pub given_so_far : (plan : OutputPlan) (logs : List NodeLog) (from : ℕ) (first line : Line N M (StagedDisk D) NodeItem DumpItem) → ReadLogs a m may_restart came plan logs from first.nodes first.merge
-      → (has_run : HasRun a m (dump_account w) first line) → AreGiven plan (planned_transactions plan logs) from (came line.merge) has_run.ran.gives
-  given_so_far plan logs from first line reads has_run = reads.gives line.nodes line.merge has_run.window has_run.ran.sends has_run.ran.gives has_run.nodes has_run.merge has_run.ran.of_nodes has_run.ran.of_merge
+  pub given_so_far : (plan : OutputPlan) (logs : List NodeLog) (from : ℕ) (first line : Line N M (StagedDisk D) NodeItem DumpItem) → ReadLogs a m r came plan logs from first.nodes first.merge
+      → (has_run : HasRun a m (dump_account w) r first line) → AreGiven plan (planned_transactions plan logs) from (came line.merge) has_run.ran.gives
+  given_so_far plan logs from first line reads has_run = reads.gives line.nodes line.merge has_run.window has_run.ran.sends has_run.ran.gives (ended_from a m (dump_account w) r first line has_run)
 
   -- one window more
   pub keeps_on : IsTrue w.tells → ((disk : D) (t : ℕ) (image : Image) → t ≤ w.moment disk → w.may_leave disk image → w.left_since disk t image) → ((disk : D) → w.may_leave disk (w.seen disk))
       → (plan : OutputPlan) (logs : List NodeLog) (rotation from count : ℕ) (first line : Line N M (StagedDisk D) NodeItem DumpItem) (mids : List (StagedDisk D)) (gave taken : List (List DumpItem)) (task mid last : D)
-      → plan.rotation ≡ rotation → ReadLogs a m may_restart came plan logs from first.nodes first.merge
+      → plan.rotation ≡ rotation → ReadLogs a m r came plan logs from first.nodes first.merge
       → AllByRecursion (λ (job : StagedDisk D). IsReadyFor w plan (planned_transactions plan logs) from job.stage job.disk) first.dumps → 1 ≤ length first.dumps
       → AllTurned (HasGone w) first.dumps gave mids → AllByRecursion (HasUnits plan (planned_transactions plan logs) from count) gave → KeepsAll w plan logs count first.dumps mids task mid
-      → (has_run : HasRun a m (dump_account w) first line) → AllTurned (HasGone w) mids taken line.dumps → has_run.ran.gives ≡ joined gave taken
-      → KeptWindow w may_restart rotation line.nodes (came line.merge) line.dumps mid last
+      → (has_run : HasRun a m (dump_account w) r first line) → AllTurned (HasGone w) mids taken line.dumps → has_run.ran.gives ≡ joined gave taken
+      → KeptWindow w r rotation line.nodes (came line.merge) line.dumps mid last
       → KeepsAll w plan logs (came line.merge).count first.dumps line.dumps task last
   keeps_on told counts_now seen_may_stay plan logs rotation from count first line mids gave taken task mid last same reads ready some turned units so_far has_run more gives kept =
       let txns = planned_transactions plan logs in
@@ -68,18 +69,18 @@ module _ {N M D : Type 0} (a : Sender N NodeItem) (m : Passer M NodeItem DumpIte
       record {
         outs = both.1;
         task = λ covered each.
-            task_on w may_restart plan logs counts_now seen_may_stay told rotation count line.nodes (came line.merge) first.dumps mids line.dumps task mid last both.0 both.1 rises
-            (λ p made. made_sound may_restart plan logs rotation from line.nodes (came line.merge) has_run.ran.gives p (sym same) given
-            (λ points restart. reads.points line.nodes line.merge has_run.window has_run.ran.sends has_run.ran.gives points has_run.nodes has_run.merge has_run.ran.of_nodes has_run.ran.of_merge restart) made)
+            task_on w r plan logs counts_now seen_may_stay told rotation count line.nodes (came line.merge) first.dumps mids line.dumps task mid last both.0 both.1 rises
+            (λ p made. made_sound r plan logs rotation from line.nodes (came line.merge) has_run.ran.gives p (sym same) given
+            (λ points restart. reads.points line.nodes line.merge has_run.window has_run.ran.sends has_run.ran.gives points (ended_from a m (dump_account w) r first line has_run) restart) made)
             (so_far.task covered each) kept;
       }
 
   -- the first window
   pub keeps_first : IsTrue w.tells → ((disk : D) (t : ℕ) (image : Image) → t ≤ w.moment disk → w.may_leave disk image → w.left_since disk t image) → ((disk : D) (image : Image) → w.left_since disk (w.moment disk) image → w.may_leave disk image)
-      → ((disk : D) → w.may_leave disk (w.seen disk)) → (plan : OutputPlan) (logs : List NodeLog) (rotation from : ℕ) (first line : Line N M (StagedDisk D) NodeItem DumpItem) (flows : IsFlowing a m (dump_account w) first first) (task last : D)
-      → flows.flow.gets ≡ nothing_for first.dumps → plan.rotation ≡ rotation → ReadLogs a m may_restart came plan logs from first.nodes first.merge
+      → ((disk : D) → w.may_leave disk (w.seen disk)) → (plan : OutputPlan) (logs : List NodeLog) (rotation from : ℕ) (first line : Line N M (StagedDisk D) NodeItem DumpItem) (flows : IsFlowing a m (dump_account w) r first first) (task last : D)
+      → flows.flow.gets ≡ nothing_for first.dumps → plan.rotation ≡ rotation → ReadLogs a m r came plan logs from first.nodes first.merge
       → AllByRecursion (λ (job : StagedDisk D). IsReadyFor w plan (planned_transactions plan logs) from job.stage job.disk) first.dumps → 1 ≤ length first.dumps
-      → (runs : RunsOn a m (dump_account w) first first line flows) → KeptWindow w may_restart rotation line.nodes (came line.merge) line.dumps task last
+      → (runs : RunsOn a m (dump_account w) r first first line flows) → KeptWindow w r rotation line.nodes (came line.merge) line.dumps task last
       → KeepsAll w plan logs (came line.merge).count first.dumps line.dumps task last
   keeps_first told counts_now only_now seen_may_stay plan logs rotation from first line flows task last gets same reads ready some runs kept =
       keeps_on told counts_now seen_may_stay plan logs rotation from from first line first.dumps (nothing_for first.dumps) runs.taken task task last same reads ready some
@@ -89,11 +90,11 @@ module _ {N M D : Type 0} (a : Sender N NodeItem) (m : Passer M NodeItem DumpIte
   -- a later window
   pub keeps_later : IsTrue w.tells → ((disk : D) (t : ℕ) (image : Image) → t ≤ w.moment disk → w.may_leave disk image → w.left_since disk t image) → ((disk : D) → w.may_leave disk (w.seen disk))
       → (plan : OutputPlan) (logs : List NodeLog) (rotation from : ℕ) (first old between line : Line N M (StagedDisk D) NodeItem DumpItem) (task mid last : D)
-      → plan.rotation ≡ rotation → ReadLogs a m may_restart came plan logs from first.nodes first.merge
+      → plan.rotation ≡ rotation → ReadLogs a m r came plan logs from first.nodes first.merge
       → AllByRecursion (λ (job : StagedDisk D). IsReadyFor w plan (planned_transactions plan logs) from job.stage job.disk) first.dumps → 1 ≤ length first.dumps
-      → (had_run : HasRun a m (dump_account w) first old) → KeepsAll w plan logs (came old.merge).count first.dumps old.dumps task mid
-      → AllTurned (HasGone w) old.dumps (nothing_for old.dumps) between.dumps → (flows : IsFlowing a m (dump_account w) first between) → flows.flow.gets ≡ had_run.ran.gives
-      → (runs : RunsOn a m (dump_account w) first between line flows) → KeptWindow w may_restart rotation line.nodes (came line.merge) line.dumps mid last
+      → (had_run : HasRun a m (dump_account w) r first old) → KeepsAll w plan logs (came old.merge).count first.dumps old.dumps task mid
+      → AllTurned (HasGone w) old.dumps (nothing_for old.dumps) between.dumps → (flows : IsFlowing a m (dump_account w) r first between) → flows.flow.gets ≡ had_run.ran.gives
+      → (runs : RunsOn a m (dump_account w) r first between line flows) → KeptWindow w r rotation line.nodes (came line.merge) line.dumps mid last
       → KeepsAll w plan logs (came line.merge).count first.dumps line.dumps task last
   keeps_later told counts_now seen_may_stay plan logs rotation from first old between line task mid last same reads ready some had_run so_far again flows gets runs kept =
       let long = turned_long (HasGone w) old.dumps between.dumps (nothing_for old.dumps) again in

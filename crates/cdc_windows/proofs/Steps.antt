@@ -20,6 +20,7 @@ use Rattle.cdc_dump_stage.specs.Job.{StagedDisk}
 use Rattle.cdc_dump_stage.specs.JobLaws.{units_more}
 use Rattle.cdc_windows.specs.declared.reached.Reached.{Reached}
 use Rattle.cdc_windows.specs.Keeping.{IsStoredBy}
+use Rattle.cdc_windows.specs.Rereading.{Rereading}
 use Rattle.cdc_windows.specs.Windows.{disks_of, OutsGoOn, HasUnits, AreGiven, AreWholeStages, IsCheckpointOf, KeptWindow, TaskGoesOn}
 use Rattle.cdc_windows.proofs.Checkpoints.{window_keeps, keeps_start}
 use Rattle.cdc_windows.proofs.Outs.{covered_on, whole_covers}
@@ -35,11 +36,11 @@ same_number : (a b c : ℕ) (r : Option ℕ) → r ≡ Some a → a ≡ b → r 
 same_number a b c r one is other = let e : Some c ≡ Some a = sym other ∙ one in let same : c ≡ a = cc in same ∙ is
 
 -- a checkpoint of where a pass came is sound
-pub made_sound : {N : Type 0} (may_restart : N → Key → RestartPoint → Type 0) (plan : OutputPlan) (logs : List NodeLog) (rotation from : ℕ) (nodes : List N) (came : Reached) (gives : List (List DumpItem)) (p : Checkpoint)
+pub made_sound : {N : Type 0} (r : Rereading N) (plan : OutputPlan) (logs : List NodeLog) (rotation from : ℕ) (nodes : List N) (came : Reached) (gives : List (List DumpItem)) (p : Checkpoint)
     → rotation ≡ plan.rotation → AreGiven plan (planned_transactions plan logs) from came gives
-    → ((points : List RestartPoint) → AllZip (λ node point. may_restart node came.last point) nodes points → AreRestartPoints came.last logs points)
-    → IsCheckpointOf may_restart rotation nodes came p → IsRecoverablePoint plan logs p
-made_sound may_restart plan logs rotation from nodes came gives p same given points made = record {
+    → ((points : List RestartPoint) → AllZip (λ node point. r.may_restart node came.last point) nodes points → AreRestartPoints came.last logs points)
+    → IsCheckpointOf r rotation nodes came p → IsRecoverablePoint plan logs p
+made_sound r plan logs rotation from nodes came gives p same given points made = record {
   sound = record {
     within = subst (λ n. n ≤ length (planned_transactions plan logs)) (sym made.count) given.within;
     last = made.last ∙ given.last ∙ ap (λ n. key_at (planned_transactions plan logs) n) (sym made.count);
@@ -49,7 +50,7 @@ made_sound may_restart plan logs rotation from nodes came gives p same given poi
   rotation = λ named is. same_number rotation plan.rotation named p.rotation made.rotation_is same is;
 }
 
-module _ {N D : Type 0} (w : DiskWords D) (may_restart : N → Key → RestartPoint → Type 0) (plan : OutputPlan) (logs : List NodeLog) where
+module _ {N D : Type 0} (w : DiskWords D) (r : Rereading N) (plan : OutputPlan) (logs : List NodeLog) where
   -- the task before the first window
   pub task_begins : (only_now : (disk : D) (image : Image) → w.left_since disk (w.moment disk) image → w.may_leave disk image) (from : ℕ) (dumps : List (StagedDisk D)) (task : D)
       → AllByRecursion (λ (disk : D). Each (w.may_leave disk) (KeepsFrom plan (planned_transactions plan logs) 0)) (disks_of dumps)
@@ -70,10 +71,10 @@ module _ {N D : Type 0} (w : DiskWords D) (may_restart : N → Key → RestartPo
       → IsTrue w.tells → (rotation count : ℕ) (nodes : List N) (came : Reached) (firsts mids lasts : List (StagedDisk D)) (first mid last : D)
       → AllZip (λ (old : StagedDisk D) (new : StagedDisk D). LosesNothing w plan (planned_transactions plan logs) old.disk new.disk) mids lasts
       → OutsGoOn w plan (planned_transactions plan logs) came.count firsts lasts → count ≤ came.count
-      → ((p : Checkpoint) → IsCheckpointOf may_restart rotation nodes came p → IsRecoverablePoint plan logs p)
+      → ((p : Checkpoint) → IsCheckpointOf r rotation nodes came p → IsRecoverablePoint plan logs p)
       → TaskGoesOn w plan logs count (disks_of mids) first mid
       → (whole : Bool) → (whole ≡ true → AreWholeStages w lasts)
-      → LeavesOnly w.moment w.left_since mid last (IsStoredBy (w.may_leave mid) (w.seen mid) (whole ≡ true) (IsCheckpointOf may_restart rotation nodes came))
+      → LeavesOnly w.moment w.left_since mid last (IsStoredBy (w.may_leave mid) (w.seen mid) (whole ≡ true) (IsCheckpointOf r rotation nodes came))
       → TaskGoesOn w plan logs came.count (disks_of lasts) first last
   task_on_by counts_now seen_may_stay told rotation count nodes came firsts mids lasts first mid last grows outs rises sound so_far true are_whole run =
       let few : so_far.most ≤ came.count = let low = so_far.below in omega (arith, low, rises) in
@@ -81,7 +82,7 @@ module _ {N D : Type 0} (w : DiskWords D) (may_restart : N → Key → RestartPo
         most = came.count;
         below = omega arith;
         kept = record {
-          every_moment = window_keeps w.seen w.may_leave w.moment w.left_since counts_now seen_may_stay plan logs so_far.most came.count (◌≡◌ {A = Bool} true true) (IsCheckpointOf may_restart rotation nodes came) first mid last few so_far.kept.every_moment run
+          every_moment = window_keeps w.seen w.may_leave w.moment w.left_since counts_now seen_may_stay plan logs so_far.most came.count (◌≡◌ {A = Bool} true true) (IsCheckpointOf r rotation nodes came) first mid last few so_far.kept.every_moment run
               (λ is p made. (sound p made, let count_is = made.count in omega (arith, count_is)));
           covered = whole_covers w plan (planned_transactions plan logs) told came.count firsts lasts outs (are_whole refl);
         };
@@ -90,7 +91,7 @@ module _ {N D : Type 0} (w : DiskWords D) (may_restart : N → Key → RestartPo
     most = so_far.most;
     below = let low = so_far.below in omega (arith, low, rises);
     kept = record {
-      every_moment = window_keeps w.seen w.may_leave w.moment w.left_since counts_now seen_may_stay plan logs so_far.most so_far.most (◌≡◌ {A = Bool} false true) (IsCheckpointOf may_restart rotation nodes came) first mid last (omega arith) so_far.kept.every_moment run
+      every_moment = window_keeps w.seen w.may_leave w.moment w.left_since counts_now seen_may_stay plan logs so_far.most so_far.most (◌≡◌ {A = Bool} false true) (IsCheckpointOf r rotation nodes came) first mid last (omega arith) so_far.kept.every_moment run
           (λ is p made. absurd cc);
       covered = covered_on w plan (planned_transactions plan logs) counts_now so_far.most mids lasts grows so_far.kept.covered;
     };
@@ -101,8 +102,8 @@ module _ {N D : Type 0} (w : DiskWords D) (may_restart : N → Key → RestartPo
       → IsTrue w.tells → (rotation count : ℕ) (nodes : List N) (came : Reached) (firsts mids lasts : List (StagedDisk D)) (first mid last : D)
       → AllZip (λ (old : StagedDisk D) (new : StagedDisk D). LosesNothing w plan (planned_transactions plan logs) old.disk new.disk) mids lasts
       → OutsGoOn w plan (planned_transactions plan logs) came.count firsts lasts → count ≤ came.count
-      → ((p : Checkpoint) → IsCheckpointOf may_restart rotation nodes came p → IsRecoverablePoint plan logs p)
-      → TaskGoesOn w plan logs count (disks_of mids) first mid → KeptWindow w may_restart rotation nodes came lasts mid last
+      → ((p : Checkpoint) → IsCheckpointOf r rotation nodes came p → IsRecoverablePoint plan logs p)
+      → TaskGoesOn w plan logs count (disks_of mids) first mid → KeptWindow w r rotation nodes came lasts mid last
       → TaskGoesOn w plan logs came.count (disks_of lasts) first last
   task_on counts_now seen_may_stay told rotation count nodes came firsts mids lasts first mid last grows outs rises sound so_far kept =
       task_on_by counts_now seen_may_stay told rotation count nodes came firsts mids lasts first mid last grows outs rises sound so_far kept.whole kept.are_whole kept.any_moment

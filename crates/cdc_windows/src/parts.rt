@@ -29,11 +29,11 @@ pub trait NodePart: NodeTurns<NodeItem> {
 
     /// Drops what it keeps for points from which it is read again behind keys of at most this one. It takes no memory.
     fn forget(&mut self, last: &Key)
-        ensures sent { (window : ℕ) (items : List NodeItem) → account.sent self.old window items → account.sent self.new window items }
-        ensures ended { account.ended self.new ≡ account.ended self.old }
+        ensures sent { (window : ℕ) (items : List NodeItem) → Self.account.sent self.old window items → Self.account.sent self.new window items }
+        ensures ended { Self.account.ended self.new ≡ Self.account.ended self.old }
         ensures read_on { rereading.read_on self.old self.new };
 
-    ghost turns_read_on: { (a b : Self) → account.turned a b → rereading.read_on a b };
+    ghost turns_read_on: { (a b : Self) → Self.account.turned a b → rereading.read_on a b };
 
     ghost reads_more: { (a b c : Self) → rereading.read_on a b → rereading.read_on b c → rereading.read_on a c };
 }

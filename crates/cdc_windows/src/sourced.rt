@@ -25,6 +25,7 @@ pub struct SourcedNode<S: Source> {
 }
 
 impl<S: Source> Model for SourcedNode<S> {
+    ghost use Rattle.std.specs.Prelude.{◌≡◌};
     ghost use Rattle.cdc_node_stage.specs.Job.{SourcedStage};
 
     ghost Value = { SourcedStage S };

@@ -44,8 +44,8 @@ fn forget_all<N: NodePart>(nodes: &mut [N], last: &Key)
     ensures ended { map N.account.ended nodes.new ≡ map N.account.ended nodes.old }
     ensures read_on { AllZip N.rereading.read_on nodes.old nodes.new }
 {
-    for node in nodes {
-        node.forget(last);
+    for index in 0..nodes.len() {
+        nodes[index].forget(last);
     }
 }
 

@@ -7,6 +7,7 @@ use Rattle.cdc_lane.specs.Held.{held}
 use Rattle.cdc_item.specs.declared.node_item.NodeItem.{NodeItem}
 use Rattle.cdc_item.specs.declared.dump_item.DumpItem.{DumpItem}
 use Rattle.cdc_dump_stage.specs.Disks.{disk_words}
+use Rattle.cdc_dump_stage.specs.Taking.{is_well}
 use Rattle.cdc_dump_stage.specs.Job.{StagedDisk}
 use Rattle.cdc_opening.specs.Lists.{AllThree}
 use Rattle.cdc_base.specs.declared.key.Key.{Key}
@@ -16,7 +17,7 @@ use Rattle.cdc_windows.specs.Jobs.{IsJobOf, StartsSoundly, pass_start}
 use Rattle.cdc_windows.specs.Windows.{AreWholeStages}
 use Rattle.cdc_windows.proofs.Starting.{line_begins, jobs_long, all_ready, disks_back}
 use Rattle.cdc_outside.specs.Count.{Rose}
-use Rattle.cdc_windows.specs.Causes.{IsFirstPassCause, causes_of_pass}
+use Rattle.cdc_windows.proofs.Behind.{first_same, was_stored, ended_well}
 use Rattle.cdc_windows.proofs.Failing.{outs_rose}
 use Rattle.cdc_windows.proofs.Whole.{pass_keeps, lent_back, disks_given}
 use Rattle.cdc_windows.proofs.pass.run_opened.Goals as goal
@@ -53,11 +54,31 @@ returns-clause-keeps g c = λ told plan logs from olds same reads opened kept so
     let ready = all_ready w told (λ disk. g.met.D.Disk.seen_may_stay disk told) plan (planned_transactions plan logs) c.pass_start-start.result from olds c.args.opened.dumpers.items c.args.outs.now.items c.deref_mut-3.result.now opened made kept
     (subst (λ (start : Option (ℕ × Key)). StartsSoundly (planned_transactions plan logs) start) (sym (c.pass_start-start.ensures ∙ ap (λ (point : Option Checkpoint). pass_start point c.args.opened.start) c.as_ref.ensures.value)) sound) few in
     let again : c.in-Ok-dump_jobs.jobs.len ≡ length c.run_windows-stored.new.dumps = let a = c.run_windows-stored.auto.dumps in let b = c.deref_mut-3.ensures.len in omega (arith, a, b) in
-    pass_keeps w told plan logs _ c.are_whole-whole.result c.deref_mut-3.result.now c.run_windows-stored.new.dumps c.args.outs.now.items c.give_back.new.outs.items c.args.task.now c.run_windows-stored.new.task
+    let is =
+    first_same c.deref-2.result.now c.run_windows-stored.new.dumps c.run_windows-stored.new.keeper.failed (not c.run_windows-stored.result) c.cause_of-cause.result
+    (c.deref-2.ensures.value ∙ lent_back c.in-Ok-dump_jobs.jobs.len c.run_windows-stored.new.dumps _ again) c.cause_of-cause.ensures in
+    pass_keeps w told plan logs _ (record { cause = c.cause_of-cause.result; whole = c.are_whole-whole.result }) c.run_windows-stored.new.keeper.failed (not c.run_windows-stored.result) c.deref_mut-3.result.now c.run_windows-stored.new.dumps c.args.outs.now.items c.give_back.new.outs.items c.args.task.now c.run_windows-stored.new.task
     (c.run_windows-stored.ensures.keeps told plan logs from same reads ready)
-    (λ is. subst (λ (jobs : List (StagedDisk g.row.D.Denot)). AreWholeStages w jobs) (c.deref.ensures.value ∙ lent_back c.in-Ok-dump_jobs.jobs.len c.run_windows-stored.new.dumps _ again) (c.are_whole-whole.ensures is))
+    (λ whole. subst (λ (jobs : List (StagedDisk g.row.D.Denot)). AreWholeStages w jobs) (c.deref.ensures.value ∙ lent_back c.in-Ok-dump_jobs.jobs.len c.run_windows-stored.new.dumps _ again) (c.are_whole-whole.ensures.whole whole))
+    is
     (disks_back c.pass_start-start.result c.args.opened.dumpers.items c.args.outs.now.items c.deref_mut-3.result.now made)
     (disks_given c.give_back.new.outs.items _ _ c.run_windows-stored.new.dumps c.give_back.ensures c.in-Ok-dump_jobs.ensures.taken.1 (lent_back c.in-Ok-dump_jobs.jobs.len c.run_windows-stored.new.dumps _ again))
+
+pub returns-clause-over : goal.returns-clause-over
+returns-clause-over g c = λ behind.
+    c.run_windows-stored.ensures.over
+    (was_stored c.deref-2.result.now c.run_windows-stored.new.keeper.failed c.run_windows-stored.result c.cause_of-cause.result c.cause_of-cause.ensures behind)
+
+pub returns-clause-whole : goal.returns-clause-whole
+returns-clause-whole g c = λ behind.
+    let again : c.in-Ok-dump_jobs.jobs.len ≡ length c.run_windows-stored.new.dumps = let a = c.run_windows-stored.auto.dumps in let b = c.deref_mut-3.ensures.len in omega (arith, a, b) in
+    let is =
+    first_same c.deref-2.result.now c.run_windows-stored.new.dumps c.run_windows-stored.new.keeper.failed (not c.run_windows-stored.result) c.cause_of-cause.result
+    (c.deref-2.ensures.value ∙ lent_back c.in-Ok-dump_jobs.jobs.len c.run_windows-stored.new.dumps _ again) c.cause_of-cause.ensures in
+    c.are_whole-whole.ensures.exact
+    (subst (λ (jobs : List (StagedDisk g.row.D.Denot)). AllByRecursion (λ (job : StagedDisk g.row.D.Denot). (job.stage.ended ≡ true) × (is_well job.stage.end ≡ true)) jobs)
+    (sym (c.deref.ensures.value ∙ lent_back c.in-Ok-dump_jobs.jobs.len c.run_windows-stored.new.dumps _ again))
+    (ended_well c.run_windows-stored.new.dumps c.run_windows-stored.new.keeper.failed (not c.run_windows-stored.result) c.cause_of-cause.result is behind c.run_windows-stored.ensures.ran.ran.dumps_ended))
 
 pub returns-clause-cause : goal.returns-clause-cause
 returns-clause-cause g c =
@@ -70,7 +91,7 @@ returns-clause-cause g c =
       task_failed = c.run_windows-stored.new.keeper.failed;
       wanting = not c.run_windows-stored.result;
       first =
-          subst (λ (jobs : List (StagedDisk g.row.D.Denot)). IsFirstPassCause (causes_of_pass jobs c.run_windows-stored.new.keeper.failed (not c.run_windows-stored.result)) c.cause_of-cause.result)
+          first_same c.deref-2.result.now c.run_windows-stored.new.dumps c.run_windows-stored.new.keeper.failed (not c.run_windows-stored.result) c.cause_of-cause.result
           (c.deref-2.ensures.value ∙ lent_back c.in-Ok-dump_jobs.jobs.len c.run_windows-stored.new.dumps _ again) c.cause_of-cause.ensures;
       outs_rose = outs_rose w c.pass_start-start.result c.args.opened.dumpers.items c.args.outs.now.items c.deref_mut-3.result.now _ c.run_windows-stored.new.dumps made c.run_windows-stored.ensures.ran.dumps;
       task_rose = λ is.

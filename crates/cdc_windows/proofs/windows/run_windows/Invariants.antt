@@ -17,9 +17,9 @@ abbrev pub invariant-windows : goal.invariant-windows
 invariant-windows g l =
     let w = disk_words g.D.Disk.tells g.D.Disk.seen g.D.Disk.synced g.D.Disk.pending g.D.Disk.may_leave g.D.Disk.moment g.D.Disk.left_since g.D.Disk.faults in
     record {
-      ran : HasRun g.N.NodeTurns.account g.M.MergeTurns.account (dump_account w) (line_with l.fn.nodes l.fn.ins l.fn.merge l.fn.outs l.fn.dumps) (line_with l.nodes l.ins l.merge l.outs l.dumps);
+      ran : HasRun g.N.NodeTurns.account g.M.MergeTurns.account (dump_account w) g.N.NodePart.rereading (line_with l.fn.nodes l.fn.ins l.fn.merge l.fn.outs l.fn.dumps) (line_with l.nodes l.ins l.merge l.outs l.dumps);
       keeps : IsTrue g.D.Disk.tells → (plan : OutputPlan) (logs : List NodeLog) (from : ℕ) → plan.rotation ≡ l.fn.rotation
-          → ReadLogs g.N.NodeTurns.account g.M.MergeTurns.account g.N.NodePart.may_restart g.M.MergePart.came plan logs from l.fn.nodes l.fn.merge
+          → ReadLogs g.N.NodeTurns.account g.M.MergeTurns.account g.N.NodePart.rereading g.M.MergePart.came plan logs from l.fn.nodes l.fn.merge
           → AllByRecursion (λ job. IsReadyFor w plan (planned_transactions plan logs) from job.stage job.disk) l.fn.dumps
           → KeepsAll w plan logs (g.M.MergePart.came l.merge).count l.fn.dumps l.dumps l.fn.task l.task;
       standing : IsTaskStanding g.D.Disk.tells g.D.Disk.seen g.D.Disk.synced g.D.Disk.pending l.keeper l.task;
