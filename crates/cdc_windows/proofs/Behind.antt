@@ -1,5 +1,5 @@
 -- What an answer says of the causes that it isn't.
-use Rattle.std.proofs.Common.{◌≡◌, ℕ, ◌+◌, ◌<◌, ◌⊎◌, inl, inr, Bool, true, false, not, List, [], ◌∷◌, ◌++◌, refl, sym, ◌∙◌, ap, subst, arith}
+use Rattle.std.proofs.Common.{◌≡◌, ℕ, ◌+◌, ◌<◌, inl, inr, Bool, true, false, not, List, [], ◌∷◌, ◌++◌, refl, sym, ◌∙◌, ap, subst, arith}
 use Rattle.std.specs.List.{All, AllByRecursion}
 use Rattle.std.proofs.lemmas.List.Elements.{recursion_from_All}
 use Rattle.cdc_base.specs.declared.key.Key.{Key as OneKey}
@@ -111,8 +111,7 @@ module _ {D : Type 0} (w : DiskWords D) (plan : OutputPlan) (txns : List Transac
       let of_disks =
       all_both (λ (c : Outcome). refuses c ≡ false) (causes_of_outs 1 lasts) (also_cause failed TaskDisk) (outs_refuse_none 1 firsts lasts outs) (also_refuses_none failed TaskDisk refl) in
       let of_all = all_both (λ (c : Outcome). refuses c ≡ false) (causes_of_outs 1 lasts ++ also_cause failed TaskDisk) (also_cause wanting Memory) of_disks (also_refuses_none wanting Memory refl) in
-      let none : refuses first ≡ false = one_refuses_none (causes_of_pass lasts failed wanting) first is.one of_all in
-      (
+      let none : refuses first ≡ false = one_refuses_none (causes_of_pass lasts failed wanting) first is.one of_all in (
         (λ kept given named. let e : ◌≡◌ {A = Bool} true false = sym (ap refuses named) ∙ none in cc),
         (λ kept given named. let e : ◌≡◌ {A = Bool} true false = sym (ap refuses named) ∙ none in cc),
       )

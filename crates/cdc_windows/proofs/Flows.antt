@@ -1,6 +1,6 @@
 -- Windows one after another: what flows runs, and what has run flows on.
-use Rattle.std.proofs.Common.{◌≡◌, ℕ, suc, ◌+◌, Bool, true, List, [], ◌∷◌, ◌++◌, length, map, refl, sym, ◌∙◌, ap, subst, arith}
-use Rattle.std.specs.List.{All, AllZip}
+use Rattle.std.proofs.Common.{◌≡◌, ℕ, suc, ◌+◌, List, [], ◌∷◌, ◌++◌, length, map, refl, sym, ◌∙◌, ap, subst, arith}
+use Rattle.std.specs.List.{AllZip}
 use Rattle.cdc_lane.specs.declared.plain.PlainLane.{PlainLane}
 use Rattle.cdc_turns.specs.Account.{Sender, Passer, Taker}
 use Rattle.cdc_turns.specs.Joined.{joined, nothing_for, AllTurned}

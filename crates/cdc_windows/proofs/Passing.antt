@@ -1,11 +1,9 @@
 -- All that a pass keeps, over one window more.
 use Rattle.std.proofs.Common.{◌≡◌, ℕ, ◌≤◌, IsTrue, List, [], ◌∷◌, length, sym, ◌∙◌, ap, subst, arith}
 use Rattle.std.specs.List.{AllByRecursion}
-use Rattle.cdc_base.specs.declared.key.Key.{Key}
 use Rattle.cdc_outside.specs.Disk.{Image}
 use Rattle.cdc_model.specs.declared.node_log.NodeLog.{NodeLog}
 use Rattle.cdc_model.specs.Records.{Transaction}
-use Rattle.cdc_model.specs.Restart.{RestartPoint}
 use Rattle.cdc_recovery.specs.Outputs.{OutputPlan, planned_transactions}
 use Rattle.cdc_recovery.proofs.Runs.{nothing_grows}
 use Rattle.cdc_turns.specs.Account.{Sender, Passer}

@@ -1,5 +1,4 @@
 -- The laws of such a job: turns are read on, and reading on behind reading on is reading on.
-use Rattle.std.specs.Prelude.{◌≡◌, refl}
 use Rattle.std.proofs.Common.{sym, ◌∙◌, ap}
 use Rattle.cdc_sorter.specs.Sorting.{SortReading}
 use Rattle.cdc_node_stage.specs.Sending.{node_state}

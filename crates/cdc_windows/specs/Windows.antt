@@ -1,7 +1,6 @@
 -- Windows: what a pass gave and kept so far.
 use Rattle.std.specs.Prelude.{◌≡◌, ℕ, ◌+◌, ◌≤◌, true, Bool, IsTrue, List, length, map, take, Some, Option}
 use Rattle.std.specs.List.{All, AllZip, AllByRecursion}
-use Rattle.cdc_base.specs.declared.key.Key.{Key}
 use Rattle.cdc_outside.specs.Disk.{Image, LeavesOnly}
 use Rattle.cdc_model.specs.declared.node_log.NodeLog.{NodeLog}
 use Rattle.cdc_model.specs.Output.{layout_of}

@@ -76,11 +76,7 @@ fn cause_of<D: Disk>(jobs: &[DumpJob<D>], task_failed: bool, wanting: bool) -> O
 ///
 /// The nodes' jobs and the merge job begin where `opened` says. On `Memory` nothing was done, and jobs, outputs and task are
 /// as they were.
-pub fn run_opened<
-    N: NodePart,
-    M: MergeTurns<NodeItem, DumpItem> + MergePart,
-    D: Disk,
->(
+pub fn run_opened<N: NodePart, M: MergeTurns<NodeItem, DumpItem> + MergePart, D: Disk>(
     alloc: Global,
     rotation: u64,
     opened: Opened,

@@ -23,11 +23,7 @@ use cdc_records::{Checkpoint, CutList};
 use std::alloc::Global;
 
 // The points from which the nodes are read again behind a last key; none where one of them has none.
-fn cuts_of<N: NodePart>(
-    alloc: Global,
-    nodes: &[N],
-    last: &Key,
-) -> Result<Option<CutList>, Memory>
+fn cuts_of<N: NodePart>(alloc: Global, nodes: &[N], last: &Key) -> Result<Option<CutList>, Memory>
     ensures points { IfOk result (λ cuts. IfSome cuts (AllZip (λ node cut. N.rereading.may_restart node last.now cut) nodes.now)) }
 {
     let mut cuts = CutList::new(alloc);

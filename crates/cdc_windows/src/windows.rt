@@ -50,11 +50,7 @@ fn forget_all<N: NodePart>(nodes: &mut [N], last: &Key)
 }
 
 // One window, from its first turn to the checkpoint behind it; whether there was memory for that.
-fn run_window<
-    N: NodePart,
-    M: MergeTurns<NodeItem, DumpItem> + MergePart,
-    D: Disk,
->(
+fn run_window<N: NodePart, M: MergeTurns<NodeItem, DumpItem> + MergePart, D: Disk>(
     alloc: Global,
     rotation: u64,
     nodes: &mut [N],
@@ -90,11 +86,7 @@ fn run_window<
 /// output is whole behind it, its checkpoint is kept, if its number is above the kept one's. Whatever the schedule, and
 /// whatever logs the nodes read: nothing that an output keeps is lost at any moment, each is ready for what follows what was
 /// given, and the task is recoverable at every moment with a checkpoint that no output is behind.
-pub fn run_windows<
-    N: NodePart,
-    M: MergeTurns<NodeItem, DumpItem> + MergePart,
-    D: Disk,
->(
+pub fn run_windows<N: NodePart, M: MergeTurns<NodeItem, DumpItem> + MergePart, D: Disk>(
     alloc: Global,
     rotation: u64,
     nodes: &mut [N],
