@@ -1,0 +1,14 @@
+pub mod Outs
+pub mod Checkpoints
+pub mod Steps
+pub mod Flows
+pub mod Passing
+pub mod MorePairs
+pub mod Forgetting
+pub mod Making
+pub mod FirstCause
+pub mod Behind
+pub mod OutsReady
+pub mod Starting
+pub mod Whole
+pub mod Failing
