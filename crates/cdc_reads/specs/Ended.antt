@@ -1,5 +1,5 @@
 -- How the readings of a pass ended.
-use Rattle.std.specs.Prelude.{◌≡◌, List}
+use Rattle.std.specs.Prelude.{List}
 use Rattle.std.specs.List.{AllByRecursion, AllZip}
 use Rattle.cdc_content.specs.Laws.{IsToEnd}
 use Rattle.cdc_node_stage.specs.Job.{SourceWords, SourcedStage}

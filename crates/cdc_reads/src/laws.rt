@@ -3,9 +3,12 @@
 ghost use Rattle.cdc_node_stage.specs.Job.{source_words};
 ghost use Rattle.cdc_reads.specs.Laws.{JobsReadLogs, AllWindowsGiveAll, TooLargeIsOversized, EndsAreFaults};
 
+use cdc_content::readings_stand_so;
+use cdc_model::{
+    log_has_one_entry_list, restart_place_reads_the_rest, restart_point_is_start,
+    restart_reads_the_rest,
+};
 use cdc_outside::Source;
-use cdc_content::{readings_are_feeds, readings_settle_the_next, readings_stand_so};
-use cdc_model::restart_place_reads_the_rest;
 use cdc_units::{
     all_read_gives_all, pass_gives_planned_units, pass_points_are_sound, too_large_ends_the_pass,
 };
@@ -16,6 +19,7 @@ pub fn jobs_read_logs<S: Source>()
 {
     readings_stand_so();
     pass_gives_planned_units();
+    restart_point_is_start();
     pass_points_are_sound();
 }
 
@@ -41,5 +45,7 @@ pub fn too_large_is_oversized<S: Source>()
 pub fn ends_are_faults<S: Source>()
     ensures { EndsAreFaults (source_words S.tells S.held S.sizes S.lowest S.faults) }
 {
+    log_has_one_entry_list();
+    restart_reads_the_rest();
     restart_place_reads_the_rest();
 }

@@ -8,6 +8,4 @@
 
 mod laws;
 
-pub use laws::{
-    all_windows_give_all, ends_are_faults, jobs_read_logs, too_large_is_oversized,
-};
+pub use laws::{all_windows_give_all, ends_are_faults, jobs_read_logs, too_large_is_oversized};
