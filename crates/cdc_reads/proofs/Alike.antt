@@ -8,6 +8,7 @@ use Rattle.cdc_item.specs.declared.node_item.NodeItem.TheVariants.{Branch, Bound
 use Rattle.cdc_node_stage.specs.Feeding.{fed_item, feed_sent, ComeInTime, waiting_item}
 use Rattle.cdc_merge_stage.specs.Merged.{fed, feed_of, IsInTime}
 
+-- on whatever feed they go
 folds_alike : (feed : NodeFeed) (items : List NodeItem) → fold fed_item feed items ≡ fold fed feed items
 folds_alike feed [] = refl
 folds_alike feed (Branch branch ∷ items) = folds_alike (feed_with feed branch) items

@@ -72,6 +72,7 @@ module _ {S : Type 0} (w : SourceWords S) (one : OneEntryList) (rest_law : Resta
   )
   all_ended node last points jobs laters logs takens sends all whole at over = absurd all
 
+-- each ended as its log or its source says
 pub ends_are_faults : {S : Type 0} (w : SourceWords S) → OneEntryList → RestartReadsTheRest → RestartPlaceReadsTheRest → EndsAreFaults w
 ends_are_faults w one rest_law place_law plan logs points nodes merge laters later begun run over =
     let taken = taken_by w plan logs points nodes merge begun laters later run.window run.sends run.gives run.ended in

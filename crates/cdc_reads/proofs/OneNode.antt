@@ -55,14 +55,17 @@ failed_since end before now open_then (inr rose) = rose
 
 module _ {S : Type 0} (w : SourceWords S) (last : Key) (point : RestartPoint) (node size : ℕ) (job later : SourcedStage S)
     (begins : BeginsAs (node_state job.stage) (reading_from last point node) size) (on : HasReadOn w job later) where
+  -- it goes by its point still
   goes_by : reading_of (node_state later.stage) ≡ reading_from last point node
   goes_by = on.reading ∙ begins.goes_by
 
   module _ (window : ℕ) (items : List NodeItem) (sent : HasSent w.tells (w.held later.source) (node_state later.stage) window items)
       (ended : later.stage.ended ≡ true) where
+    -- nothing waits
     is_empty : (node_state later.stage).pending ≡ None
     is_empty = sent.emptied ended
 
+    -- what was sent is all that its reader gave and told
     is_read : IsReading w.tells (w.held job.source) (node_state later.stage).reader (reading_from last point node) sent.taken (feed_of items)
     is_read =
         subst (λ (files : List (List ℕ)). IsReading w.tells files (node_state later.stage).reader (reading_from last point node) sent.taken (feed_of items)) on.asked.held
@@ -70,17 +73,20 @@ module _ {S : Type 0} (w : SourceWords S) (last : Key) (point : RestartPoint) (n
         (subst (λ (f : NodeFeed). IsReading w.tells (w.held later.source) (node_state later.stage).reader (reading_of (node_state later.stage)) sent.taken f)
         (feed_of_sent items (node_state later.stage).pending is_empty) sent.reads))
 
+    -- and all that is settled of what was taken
     is_given : ((node_state later.stage).reader.end ≡ NoMemory → ⊥) → AllGiven (reading_from last point node) sent.taken (feed_of items)
     is_given had =
         subst (λ (r : SortReading). AllGiven r sent.taken (feed_of items)) goes_by
         (subst (λ (f : NodeFeed). AllGiven (reading_of (node_state later.stage)) sent.taken f) (feed_of_sent items (node_state later.stage).pending is_empty)
         ((sent.closed (inl ended)).given had))
 
+    -- it came in time
     came_in_time : ComeInTime no_feed items
     came_in_time =
         subst (λ (list : List NodeItem). ComeInTime no_feed list) (append-nil items)
         (subst (λ (p : Option NodeItem). ComeInTime no_feed (items ++ waiting_item p)) is_empty sent.in_time)
 
+    -- where it may be read again is the latest point of what was taken
     restarts_at : (key : Key) (latest : RestartPoint) → MayRestartAt w later key latest → IsStart (start_at point) → IsLatestPoint key point node sent.taken latest
     restarts_at key latest may start =
         let from : later.stage.from ≡ point = ap (λ (r : SortReading). r.from) goes_by in

@@ -36,10 +36,12 @@ module _ {S : Type 0} (w : SourceWords S) (plan : OutputPlan) (logs : List NodeL
       have_taken w 1 merge.start.last points nodes laters window sends begun.begin ended.nodes_on ended.sent
       (each_by_recursion (λ (job : SourcedStage S). job.stage.ended ≡ true) laters ended.nodes_ended)
 
+  -- what they sent is kept, for the merge stage's start
   kept_so : AreKept later.start sends
   kept_so = subst (λ (start : MergeStart). AreKept start sends) (sym ended.merge_on.start) (all_kept w 1 merge.start.last points nodes laters taken_by.takens sends taken_by.each)
 
   module _ (law : ReadingsStandSo) where
+    -- they have read these logs from their points on
     reads_so : PassReads plan (files_of_jobs w nodes) logs later.start.count later.start.last points taken_by.takens (feeds_of sends)
     reads_so =
         subst (λ (start : MergeStart). PassReads plan (files_of_jobs w nodes) logs start.count start.last points taken_by.takens (feeds_of sends)) (sym ended.merge_on.start)
@@ -62,9 +64,11 @@ module _ {S : Type 0} (w : SourceWords S) (plan : OutputPlan) (logs : List NodeL
       did = ended.did;
     }
 
+    -- the transactions that were given
     abbrev has : HasGivenUnits later (feeds_of sends) gives
     has = pass_gave.did.merged pass_gave.kept
 
+    -- the merge stage stands behind as many as there are units
     counted : later.start.count + length (units_behind later.maker.rules later.maker.rotation later.start.before has.gave) ≡ later.behind.count
     counted =
         let many : length (units_behind later.maker.rules later.maker.rotation later.start.before has.gave) ≡ length has.gave =
@@ -72,6 +76,7 @@ module _ {S : Type 0} (w : SourceWords S) (plan : OutputPlan) (logs : List NodeL
         let count : later.behind.count ≡ later.start.count + length has.gave = ap (λ (b : MergeStart). b.count) has.behind in
         omega (arith, many, count)
 
+    -- no unit waits for a lane
     none_wait : all_none later.slots ≡ true
     none_wait = (all_parts (all_true later.took) later.closing (all_none later.slots) ended.merge_ended).2
 
@@ -111,6 +116,7 @@ module _ {S : Type 0} (w : SourceWords S) (plan : OutputPlan) (logs : List NodeL
 
 -- ---- the laws
 
+-- jobs that begin so read these logs
 pub jobs_read_logs : {S : Type 0} (w : SourceWords S) → ReadingsStandSo → PassGivesPlannedUnits → RestartPointIsStart → PassPointsAreSound → JobsReadLogs w
 jobs_read_logs w law gives_law start_law points_law plan logs points nodes merge begun = record {
   gives = λ laters later window sends gives ended. are_given w plan logs points nodes merge begun laters later window sends gives ended law gives_law;
@@ -118,10 +124,12 @@ jobs_read_logs w law gives_law start_law points_law plan logs points nodes merge
       are_points w plan logs points nodes merge begun laters later window sends gives ended law start_law points_law latests may;
 }
 
+-- all was read, so all was given
 pub all_windows_give_all : {S : Type 0} (w : SourceWords S) → ReadingsStandSo → AllReadGivesAll → AllWindowsGiveAll w
 all_windows_give_all w law all_law plan logs points nodes merge laters later begun run through whole =
     gives_all w plan logs points nodes merge begun laters later run.window run.sends run.gives run.ended law all_law through whole
 
+-- a print that is too large is the logs' oversized one
 pub too_large_is_oversized : {S : Type 0} (w : SourceWords S) → ReadingsStandSo → TooLargeEndsThePass → TooLargeIsOversized w
 too_large_is_oversized w law large_law plan logs points nodes merge laters later number bytes begun run is =
     ends_at w plan logs points nodes merge begun laters later run.window run.sends run.gives run.ended law large_law number bytes is
