@@ -1,0 +1,8 @@
+mod Lists
+mod Opening
+mod Beginning
+mod Causes
+mod Ends
+mod Resuming
+mod Rising
+mod Running

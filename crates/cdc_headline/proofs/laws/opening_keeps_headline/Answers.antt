@@ -1,0 +1,10 @@
+use Rattle.cdc_dump_stage.specs.Disks.{disk_words}
+use Rattle.cdc_node_stage.specs.Job.{source_words}
+use Rattle.cdc_headline.proofs.Opening.{opening_keeps_headline}
+use Rattle.cdc_headline.proofs.laws.opening_keeps_headline.Goals as goal
+
+pub returns : goal.returns
+returns g c =
+    opening_keeps_headline (source_words g.S.Source.tells g.S.Source.held g.S.Source.sizes g.S.Source.lowest g.S.Source.faults)
+    (disk_words g.D.Disk.tells g.D.Disk.seen g.D.Disk.synced g.D.Disk.pending g.D.Disk.may_leave g.D.Disk.moment g.D.Disk.left_since g.D.Disk.faults)
+    g.met.D.Disk.seen_may_stay g.met.D.Disk.counts_now c.kept_disks_are_opened.ensures
