@@ -18,14 +18,17 @@ use Rattle.cdc_opening.specs.Outcomes.{place_of_outcome, ComesBefore}
 use Rattle.cdc_windows.specs.Causes.{cause_of_out, causes_of_outs, also_cause, causes_of_pass, IsOneOf, IsFirstPassCause}
 use Rattle.cdc_windows.specs.Windows.{OutsGoOn}
 
+-- what holds of all holds of those in front
 all_front : {A : Type 0} (P : A → Type 0) (xs ys : List A) → AllByRecursion P (xs ++ ys) → AllByRecursion P xs
 all_front P [] ys all = tt
 all_front P (x ∷ xs) ys all = (all.0, all_front P xs ys all.1)
 
+-- and of the last
 last_of : {A : Type 0} (P : A → Type 0) (xs : List A) (x : A) → AllByRecursion P (xs ++ x ∷ []) → P x
 last_of P [] x all = all.0
 last_of P (y ∷ xs) x all = last_of P xs x all.1
 
+-- what holds of two lists holds of both as one
 all_both : {A : Type 0} (P : A → Type 0) (xs ys : List A) → AllByRecursion P xs → AllByRecursion P ys → AllByRecursion P (xs ++ ys)
 all_both P [] ys front rest = rest
 all_both P (x ∷ xs) ys front rest = (front.0, all_both P xs ys front.1 rest)
@@ -48,6 +51,7 @@ well_by end_of.Disk n first behind never = absurd (never (inl (let h : 7 < place
 well_by (end_of.Differs kept given) n first behind never = absurd (never (inl behind))
 well_by (end_of.Key kept given) n first behind never = absurd (never (inl behind))
 
+-- so it is of all stages
 well_and_ended : {D : Type 0} (n : ℕ) (dumps : List (StagedDisk D)) (first : Outcome) → 11 < place_of_outcome first → AllByRecursion (λ (c : Outcome). ComesBefore c first → ⊥) (causes_of_outs n dumps)
     → AllByRecursion (λ (job : StagedDisk D). job.stage.ended ≡ true) dumps → AllByRecursion (λ (job : StagedDisk D). (job.stage.ended ≡ true) × (is_well job.stage.end ≡ true)) dumps
 well_and_ended n [] first behind none ended = tt
@@ -76,6 +80,7 @@ refuses (Behind node kept given) = false
 refuses (Differs out kept given) = true
 refuses (Key out kept given) = true
 
+-- a stage that is well refused none
 well_refuses_none : (e : DumpEnd) (n : ℕ) → is_well e ≡ true → refuses (cause_of_out n e) ≡ false
 well_refuses_none end_of.Open n well = refl
 well_refuses_none end_of.Whole n well = refl
@@ -83,11 +88,13 @@ well_refuses_none end_of.Disk n well = refl
 well_refuses_none (end_of.Differs kept given) n well = absurd cc
 well_refuses_none (end_of.Key kept given) n well = absurd cc
 
+-- an answer that is one of these causes refuses none where they refuse none
 one_refuses_none : (causes : List Outcome) (first : Outcome) → IsOneOf first causes → AllByRecursion (λ (c : Outcome). refuses c ≡ false) causes → refuses first ≡ false
 one_refuses_none [] first is none = ap refuses is
 one_refuses_none (c ∷ causes) first (inl here) none = ap refuses here ∙ none.0
 one_refuses_none (c ∷ causes) first (inr there) none = one_refuses_none causes first there none.1
 
+-- nor does one cause more
 also_refuses_none : (also : Bool) (cause : Outcome) → refuses cause ≡ false → AllByRecursion (λ (c : Outcome). refuses c ≡ false) (also_cause also cause)
 also_refuses_none true cause not = (not, tt)
 also_refuses_none false cause not = tt
@@ -98,6 +105,7 @@ module _ {D : Type 0} (w : DiskWords D) (plan : OutputPlan) (txns : List Transac
   ready_refuses_none job n (inl working) = well_refuses_none job.stage.end n working.well
   ready_refuses_none job n (inr failed) = ap (λ (e : DumpEnd). refuses (cause_of_out n e)) failed
 
+  -- so it is of all outputs
   outs_refuse_none : (n : ℕ) (firsts lasts : List (StagedDisk D)) → OutsGoOn w plan txns count firsts lasts → AllByRecursion (λ (c : Outcome). refuses c ≡ false) (causes_of_outs n lasts)
   outs_refuse_none n [] [] all = tt
   outs_refuse_none n [] (z ∷ lasts) all = absurd all

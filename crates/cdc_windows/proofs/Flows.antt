@@ -123,5 +123,6 @@ module _ {N M D : Type 0} (a : Sender N NodeItem) (m : Passer M NodeItem DumpIte
     merge_ended = has_run.ran.merge_ended;
   }
 
+  -- so they have run
   pub have_run : (first line : Line N M D NodeItem DumpItem) → HasRun a m d r first line → HaveRun a m r first.nodes first.merge line.nodes line.merge
   have_run first line has_run = record { window = has_run.window; sends = has_run.ran.sends; gives = has_run.ran.gives; ended = ended_from first line has_run }

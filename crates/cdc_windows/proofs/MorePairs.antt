@@ -20,6 +20,7 @@ zip_weaker P Q weaker [] (y ∷ ys) all = absurd all
 zip_weaker P Q weaker (x ∷ xs) [] all = absurd all
 zip_weaker P Q weaker (x ∷ xs) (y ∷ ys) all = (weaker x y all.0, zip_weaker P Q weaker xs ys all.1)
 
+-- the same by recursion
 same_tests : {A : Type 0} (f : A → Bool) (xs ys : List A) → map f ys ≡ map f xs → AllByRecursion (λ (x : A). f x ≡ true) xs → AllByRecursion (λ (y : A). f y ≡ true) ys
 same_tests f xs [] same all = tt
 same_tests f [] (y ∷ ys) same all = absurd cc
