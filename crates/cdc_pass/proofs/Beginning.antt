@@ -10,7 +10,7 @@ use Rattle.cdc_node_stage.specs.Sending.{node_state}
 use Rattle.cdc_node_stage.specs.Preparing.{BeginsAs}
 use Rattle.cdc_node_stage.specs.Job.{SourcedStage}
 use Rattle.cdc_reads.specs.Begun.{AllBegin}
-use Rattle.cdc_pass.specs.Starting.{StagesBegin, BeginsBehind, stages_of, IsFresh}
+use Rattle.cdc_pass.specs.Starting.{StagesBegin, BeginsBehind, stages_of, HasSentNothing}
 
 -- what a stage goes by that begins at a point
 abbrev pub begin_at : Key → RestartPoint → ℕ → SortReading
@@ -54,7 +54,7 @@ jobs_begin node last (p ∷ points) [] begin = absurd begin
 jobs_begin node last (p ∷ points) (j ∷ jobs) begin = (begin.0, jobs_begin (node + 1) last points jobs begin.1)
 
 -- and have sent nothing
-pub jobs_fresh : {S : Type 0} (tells : Bool) (held : S → List (List ℕ)) (node : ℕ) (last : Key) (points : List RestartPoint) (jobs : List (SourcedStage S)) → StagesBegin node last points (stages_of jobs) → AllByRecursion (IsFresh tells held) jobs
+pub jobs_fresh : {S : Type 0} (tells : Bool) (held : S → List (List ℕ)) (node : ℕ) (last : Key) (points : List RestartPoint) (jobs : List (SourcedStage S)) → StagesBegin node last points (stages_of jobs) → AllByRecursion (HasSentNothing tells held) jobs
 jobs_fresh tells held node last [] [] begin = tt
 jobs_fresh tells held node last [] (j ∷ jobs) begin = absurd begin
 jobs_fresh tells held node last (p ∷ points) [] begin = absurd begin

@@ -17,10 +17,10 @@ use Rattle.cdc_turns.specs.Joined.{nothing_for}
 use Rattle.cdc_windows.specs.Sourced.{HasReadOn}
 use Rattle.cdc_windows.proofs.Starting.{same_nothing}
 use Rattle.cdc_headline.specs.Running.{sources_of, merge_start_of, HasRunWindows}
-use Rattle.cdc_pass.specs.Starting.{IsFresh, DidNothing, HaveJobsRun, WereJobsRun}
+use Rattle.cdc_pass.specs.Starting.{HasSentNothing, DidNothing, HaveJobsRun, WereJobsRun}
 
 -- in the first window nothing was sent
-pub nothing_sent : {S : Type 0} (tells : Bool) (held : S → List (List ℕ)) (jobs : List (SourcedStage S)) → AllByRecursion (IsFresh tells held) jobs
+pub nothing_sent : {S : Type 0} (tells : Bool) (held : S → List (List ℕ)) (jobs : List (SourcedStage S)) → AllByRecursion (HasSentNothing tells held) jobs
     → AllZip (λ (job : SourcedStage S) (items : List NodeItem). HasSent tells (held job.source) (node_state job.stage) 1 items) jobs (nothing_for jobs)
 nothing_sent tells held [] fresh = tt
 nothing_sent tells held (j ∷ jobs) fresh = (fresh.0, nothing_sent tells held jobs fresh.1)

@@ -54,8 +54,8 @@ abbrev pub stages_of : {S : Type 0} → List (SourcedStage S) → List NodeStage
 stages_of {S} jobs = map (λ (job : SourcedStage S). job.stage) jobs
 
 -- a node's job at its beginning: in the first window nothing was sent
-abbrev pub IsFresh : {S : Type 0} → Bool → (S → List (List ℕ)) → SourcedStage S → Type 0
-IsFresh tells held job = HasSent tells (held job.source) (node_state job.stage) 1 []
+abbrev pub HasSentNothing : {S : Type 0} → Bool → (S → List (List ℕ)) → SourcedStage S → Type 0
+HasSentNothing tells held job = HasSent tells (held job.source) (node_state job.stage) 1 []
 
 -- a pass did nothing, for want of memory
 pub record DidNothing {S D : Type 0} (nodes nodes_now : List S) (outs outs_now : List D) (task task_now : D) (outcome : Outcome) : Type 0 where

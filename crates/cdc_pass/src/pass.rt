@@ -22,7 +22,7 @@ ghost use Rattle.cdc_windows.specs.Jobs.{IsReadyOut, pass_start};
 ghost use Rattle.cdc_headline.specs.Ending.{IsRefusedOpening};
 ghost use Rattle.cdc_headline.specs.Headline.{Headline};
 ghost use Rattle.cdc_headline.specs.Running.{IsPassOver, HasRunWindows, merge_start_of};
-ghost use Rattle.cdc_pass.specs.Starting.{output_plan, IsClear, IsFresh, StagesBegin, DidNothing, WereJobsRun};
+ghost use Rattle.cdc_pass.specs.Starting.{output_plan, IsClear, HasSentNothing, StagesBegin, DidNothing, WereJobsRun};
 
 use crate::ends::{merge_cause, nodes_cause};
 use crate::jobs::{give_sources, node_jobs};
@@ -79,7 +79,7 @@ fn run_jobs<L: Ledger, S: Source, D: Disk>(
     requires durable { IsTrue D.tells → IsDurable (D.seen task.old) (D.synced task.old) (D.pending task.old) }
     requires took { length merge.old.took ≡ length jobs.old }
     requires gave { length merge.old.slots ≡ length outs.old.items }
-    requires begun { AllByRecursion (IsFresh S.tells S.held) jobs.old }
+    requires begun { AllByRecursion (HasSentNothing S.tells S.held) jobs.old }
     requires merges { MergeDid 1 merge.old (nothing_for merge.old.took) (nothing_for merge.old.slots) }
     ensures ran { WereJobsRun (source_words S.tells S.held S.sizes S.lowest S.faults) (disk_words D.tells D.seen D.synced D.pending D.may_leave D.moment D.left_since D.faults) rotation opened.dumpers.items (pass_start opened.kept opened.start) jobs.old merge.old jobs.new merge.new outs.old.items outs.new.items task.old task.new result }
 {

@@ -10,7 +10,7 @@ use Rattle.cdc_reads.specs.Begun.{AllBegin}
 use Rattle.cdc_windows.specs.Jobs.{pass_start}
 use Rattle.cdc_windows.proofs.Whole.{lent_back}
 use Rattle.cdc_headline.specs.Running.{sources_of}
-use Rattle.cdc_pass.specs.Starting.{output_plan, StagesBegin, IsFresh}
+use Rattle.cdc_pass.specs.Starting.{output_plan, StagesBegin, HasSentNothing}
 use Rattle.cdc_pass.proofs.Beginning.{stages_long, stages_behind, jobs_begin, jobs_fresh}
 use Rattle.cdc_pass.proofs.Listing.{given_back}
 use Rattle.cdc_pass.proofs.Ran.{pass_ran, still_held}
@@ -24,7 +24,7 @@ node_jobs-requires-clause-many g c = stages_long 1 c.args.start.last c.requires.
 
 pub run_jobs-outcome-requires-clause-begun : goal.run_jobs-outcome-requires-clause-begun
 run_jobs-outcome-requires-clause-begun g c =
-    subst (λ (jobs : List (SourcedStage g.row.S.Denot)). AllByRecursion (IsFresh g.S.Source.tells g.S.Source.held) jobs) (sym c.deref_mut.ensures.value)
+    subst (λ (jobs : List (SourcedStage g.row.S.Denot)). AllByRecursion (HasSentNothing g.S.Source.tells g.S.Source.held) jobs) (sym c.deref_mut.ensures.value)
     (jobs_fresh g.S.Source.tells g.S.Source.held 1 c.args.start.last c.requires.stages.0 c.in-Ok-node_jobs.jobs.items
     (subst (λ (stages : List NodeStage). StagesBegin 1 c.args.start.last c.requires.stages.0 stages) (sym c.in-Ok-node_jobs.ensures.jobs.0) c.requires.stages.2))
 
