@@ -16,6 +16,7 @@ use Rattle.cdc_windows.specs.Causes.{IsOneOf, IsFirstPassCause, cause_of_out, ca
 use Rattle.cdc_windows.proofs.FirstCause.{first_more}
 use Rattle.cdc_headline.specs.Ending.{cause_of_node, causes_of_nodes, cause_of_merge, IsRefusedOpening}
 
+-- what isn't less is at least as great
 not_less : (x y : ℕ) → (x < y → ⊥) → y ≤ x
 not_less x y never = omega (arith, never)
 
@@ -61,10 +62,12 @@ one_unrefused first [] all one refused = subst (λ (o : Outcome). IsRefusedOpeni
 one_unrefused first (c ∷ causes) all (inl here) refused = all.0 (subst (λ (o : Outcome). IsRefusedOpening o) here refused)
 one_unrefused first (c ∷ causes) all (inr there) refused = one_unrefused first causes all.1 there refused
 
+-- two lists of such causes, one behind the other
 both_unrefused : (xs ys : List Outcome) → AllByRecursion (λ (c : Outcome). IsRefusedOpening c → ⊥) xs → AllByRecursion (λ (c : Outcome). IsRefusedOpening c → ⊥) ys → AllByRecursion (λ (c : Outcome). IsRefusedOpening c → ⊥) (xs ++ ys)
 both_unrefused [] ys all more = more
 both_unrefused (x ∷ xs) ys all more = (all.0, both_unrefused xs ys all.1 more)
 
+-- the end of an output's stage is no refusal
 out_unrefused : (out : ℕ) (e : DumpEnd) → IsRefusedOpening (cause_of_out out e) → ⊥
 out_unrefused out dumping.Open refused = absurd refused
 out_unrefused out dumping.Whole refused = absurd refused
@@ -72,10 +75,12 @@ out_unrefused out dumping.Disk refused = absurd refused
 out_unrefused out (dumping.Differs kept given) refused = absurd refused
 out_unrefused out (dumping.Key kept given) refused = absurd refused
 
+-- nor are the ends of all
 outs_unrefused : {D : Type 0} (out : ℕ) (dumps : List (StagedDisk D)) → AllByRecursion (λ (c : Outcome). IsRefusedOpening c → ⊥) (causes_of_outs out dumps)
 outs_unrefused out [] = tt
 outs_unrefused out (d ∷ dumps) = (out_unrefused out d.stage.end, outs_unrefused (out + 1) dumps)
 
+-- nor is one cause more
 also_unrefused : (also : Bool) (cause : Outcome) → (IsRefusedOpening cause → ⊥) → AllByRecursion (λ (c : Outcome). IsRefusedOpening c → ⊥) (also_cause also cause)
 also_unrefused true cause never = (never, tt)
 also_unrefused false cause never = tt
@@ -89,6 +94,7 @@ pass_unrefused dumps failed wanting cause is =
     (also_unrefused wanting Memory (λ refused. absurd refused)))
     is.one
 
+-- the end of a node's reading is no refusal
 node_unrefused : (node : ℕ) (e : NodeEnd) → IsRefusedOpening (cause_of_node node e) → ⊥
 node_unrefused node reading.Open refused = absurd refused
 node_unrefused node reading.Whole refused = absurd refused
@@ -96,10 +102,12 @@ node_unrefused node reading.Read refused = absurd refused
 node_unrefused node reading.Memory refused = absurd refused
 node_unrefused node (reading.Fault place fault) refused = absurd refused
 
+-- nor are the ends of all
 nodes_unrefused : {S : Type 0} (node : ℕ) (jobs : List (SourcedStage S)) → AllByRecursion (λ (c : Outcome). IsRefusedOpening c → ⊥) (causes_of_nodes node jobs)
 nodes_unrefused node [] = tt
 nodes_unrefused node (j ∷ jobs) = (node_unrefused node j.stage.reader.end, nodes_unrefused (node + 1) jobs)
 
+-- nor is the end of the merging
 merge_unrefused : (e : MergeEnd) → IsRefusedOpening (cause_of_merge e) → ⊥
 merge_unrefused merging.Open refused = absurd refused
 merge_unrefused merging.Whole refused = absurd refused

@@ -1,13 +1,12 @@
 -- What stands behind an opening, for the windows.
-use Rattle.std.proofs.Common.{◌≡◌, ℕ, zero, suc, ◌+◌, ◌-◌, ◌^◌, ◌<◌, ◌≤◌, IsTrue, List, [], ◌∷◌, length, map, get_or, Option, Some, None, refl, sym, ◌∙◌, ap, subst, arith}
-use Rattle.std.specs.Prelude.{sum, sum_by, IfSome}
+use Rattle.std.proofs.Common.{◌≡◌, ℕ, zero, suc, ◌-◌, ◌^◌, ◌<◌, ◌≤◌, IsTrue, List, [], ◌∷◌, length, map, get_or, Option, Some, None, refl, sym, ◌∙◌, ap, subst, arith}
+use Rattle.std.specs.Prelude.{sum, IfSome}
 use Rattle.std.specs.List.{AllZip, AllByRecursion}
 use Rattle.std.proofs.lemmas.List.{length-map}
 use Rattle.std.proofs.lemmas.List.Sums.{sum_by-cons}
 use Rattle.cdc_base.specs.declared.place.Place.{Place}
 use Rattle.cdc_outside.specs.Count.{Rose}
 use Rattle.cdc_outside.specs.Source.{size_of}
-use Rattle.cdc_model.specs.Layout.{HasRoom}
 use Rattle.cdc_model.specs.Restart.{RestartPoint, first_point}
 use Rattle.cdc_records.specs.declared.checkpoint.Checkpoint.{Checkpoint}
 use Rattle.cdc_records.specs.Checkpoint.{IsCut, IsPoint}
@@ -55,6 +54,7 @@ dumpers_long R (x ∷ xs) [] zs all = absurd all
 dumpers_long R (x ∷ xs) (y ∷ ys) [] all = absurd all
 dumpers_long R (x ∷ xs) (y ∷ ys) (z ∷ zs) all = let e = dumpers_long R xs ys zs all.1 in omega (arith, e)
 
+-- pairs are as many on both sides
 pub zip_long : {A B : Type 0} (R : A → B → Type 0) (xs : List A) (ys : List B) → AllZip R xs ys → length xs ≡ length ys
 zip_long R [] [] all = refl
 zip_long R [] (y ∷ ys) all = absurd all
@@ -63,9 +63,11 @@ zip_long R (x ∷ xs) (y ∷ ys) all = let e = zip_long R xs ys all.1 in omega (
 
 -- ---- counts over an opening and windows
 
-rose_from : (a b c : ℕ) → a ≤ b → Rose b c → Rose a c
+-- a count that rose rose from a lower one too
+pub rose_from : (a b c : ℕ) → a ≤ b → Rose b c → Rose a c
 rose_from a b c le rose = omega (arith, le, rose)
 
+-- a count at a place doesn't fall
 later_at : {A : Type 0} (faults : A → ℕ) (R : A → A → Type 0) → ((old new : A) → R old new → faults old ≤ faults new) → (olds news : List A) (k : ℕ) → AllZip R olds news → get_or (map faults olds) k 0 ≤ get_or (map faults news) k 0
 later_at faults R so [] [] k all = omega arith
 later_at faults R so [] (n ∷ news) k all = absurd all
@@ -82,16 +84,15 @@ rose_since faults R so olds mids news number all rose = record {
   rose = rose_from (get_or (map faults olds) (number - 1) 0) (get_or (map faults mids) (number - 1) 0) (get_or (map faults news) (number - 1) 0) (later_at faults R so olds mids (number - 1) all) rose.rose;
 }
 
-pub task_rose_since : (a b c : ℕ) → a ≤ b → Rose b c → Rose a c
-task_rose_since = rose_from
-
 -- ---- points
 
+-- a number is at most the sum of all
 size_in : (sizes : List ℕ) (k : ℕ) → get_or sizes k 0 ≤ sum sizes
 size_in [] k = omega arith
 size_in (x ∷ sizes) zero = let cons = sum_by-cons (λ (n : ℕ). n) x sizes in omega (arith, cons)
 size_in (x ∷ sizes) (suc k) = let cons = sum_by-cons (λ (n : ℕ). n) x sizes in let le = size_in sizes k in omega (arith, cons, le)
 
+-- a byte of a file is small, and so is the start of a log
 at_small : (entry at size total : ℕ) → 1 ≤ entry → (entry ≡ 1 → at ≡ 0) → (1 < entry → at ≤ size) → size ≤ total → total ≤ 2 ^ 54 → at < 2 ^ 63
 at_small zero at size total numbered start within le limit = absurd (omega (arith, numbered))
 at_small (suc zero) at size total numbered start within le limit = let e : at ≡ 0 = start refl in omega (arith, e)
@@ -102,6 +103,7 @@ point_small : (sizes : List ℕ) (cut : RestartPoint) → sum sizes ≤ 2 ^ 54 �
 point_small sizes cut limit is can =
     at_small cut.entry cut.place.at (size_of sizes cut.place.file) (sum sizes) is.numbered (λ one. ap (λ (c : RestartPoint). c.place.at) (is.from_start one)) can.at (size_in sizes (cut.place.file - 1)) limit
 
+-- all points that can be read from are
 points_small : {S : Type 0} (sizes : S → List ℕ) → ((source : S) → sum (sizes source) ≤ 2 ^ 54) → (nodes : List S) (cuts : List RestartPoint) → AllByRecursion IsCut cuts → AllZip (λ (source : S) (cut : RestartPoint). CanReadFrom (sizes source) cut) nodes cuts
     → AllByRecursion (λ (cut : RestartPoint). cut.place.at < 2 ^ 63) cuts
 points_small sizes limit [] [] are can = tt
@@ -109,13 +111,16 @@ points_small sizes limit [] (c ∷ cuts) are can = absurd can
 points_small sizes limit (n ∷ nodes) [] are can = absurd can
 points_small sizes limit (n ∷ nodes) (c ∷ cuts) are can = (point_small (sizes n) c (limit n) are.0 can.0, points_small sizes limit nodes cuts are.1 can.1)
 
+-- the start of a log is a point
 first_is_cut : IsCut first_point
 first_is_cut = record { numbered = omega arith; placed = omega arith; in_order = tt; from_start = λ one. refl }
 
+-- all starts are points
 firsts_are_cuts : {N : Type 0} (nodes : List N) → AllByRecursion IsCut (map (λ _. first_point) nodes)
 firsts_are_cuts [] = tt
 firsts_are_cuts (n ∷ nodes) = (first_is_cut, firsts_are_cuts nodes)
 
+-- all starts are at the first byte
 firsts_small : {N : Type 0} (nodes : List N) → AllByRecursion (λ (cut : RestartPoint). cut.place.at < 2 ^ 63) (map (λ _. first_point) nodes)
 firsts_small [] = tt
 firsts_small (n ∷ nodes) = (omega arith, firsts_small nodes)
@@ -136,32 +141,17 @@ pub start_long : {N : Type 0} (nodes : List N) (rotation : ℕ) (used : Option C
 start_long nodes rotation None fits = length-map nodes (λ _. first_point)
 start_long nodes rotation (Some p) fits = fits.0
 
-sum_of : (count others most : ℕ) → count + others ≤ most → count ≤ most
-sum_of count others most le = omega (arith, le)
-
-point_room : (p : Checkpoint) → IsPoint p → HasRoom p.layout
-point_room p is = record {
-  file =
-      let within = is.within in
-      let number : p.count ≤ 2 ^ 61 = sum_of p.count (sum_by (λ (point : RestartPoint). point.entry) p.nodes) (2 ^ 61) is.number in
-      omega (arith, within, number);
-  size = is.left_open;
-}
-
--- and behind its layout there is room for a transaction
-pub start_room : {N : Type 0} (nodes : List N) (used : Option Checkpoint) → IfSome used IsPoint → HasRoom (start_of_pass nodes used).before
-start_room nodes None sound = record { file = omega arith; size = λ not_closed. omega arith }
-start_room nodes (Some p) sound = point_room p sound
-
 -- what holds of a kept checkpoint holds of the one that is used
 pub used_holds : (P : Checkpoint → Type 0) (start : Start) (kept : Option Checkpoint) → IfSome kept P → IfSome (used_point start kept) P
 used_holds P First kept holds = tt
 used_holds P Cut kept holds = holds
 
+-- what is used fits the plan
 pub used_fits : (nodes rotation : ℕ) (start : Start) (kept : Option Checkpoint) → FitsPlan nodes rotation kept → FitsPlan nodes rotation (used_point start kept)
 used_fits nodes rotation First kept fits = tt
 used_fits nodes rotation Cut kept fits = fits
 
+-- the start of a pass without a checkpoint, at these points
 abbrev start_with : List RestartPoint → PassStart
 start_with points = record { count = 0; last = first_key; before = layout_in no_output; points = points }
 
@@ -172,12 +162,14 @@ same_start nodes others (Some p) long = refl
 
 -- ---- what an opening leaves of sources
 
+-- sources hold what they held and were asked for nothing
 pub sources_kept : {S : Type 0} (s : SourceWords S) (highest : S → Option Place) (olds news : List S) → AllZip (IsSourceKept s.held s.sizes s.lowest highest s.faults) olds news → AllZip (KeepsSource s) olds news
 sources_kept s highest [] [] all = tt
 sources_kept s highest [] (n ∷ news) all = absurd all
 sources_kept s highest (o ∷ olds) [] all = absurd all
 sources_kept s highest (o ∷ olds) (n ∷ news) all = (record { held = all.0.holds; lowest = all.0.least; later = all.0.later }, sources_kept s highest olds news all.1)
 
+-- so they hold the same bytes
 pub sources_held : {S : Type 0} (s : SourceWords S) (olds news : List S) → AllZip (KeepsSource s) olds news → map s.held news ≡ map s.held olds
 sources_held s [] [] all = refl
 sources_held s [] (n ∷ news) all = absurd all
@@ -195,6 +187,7 @@ still_can held sizes lowest highest faults (o ∷ olds) (n ∷ news) [] all can 
 still_can held sizes lowest highest faults (o ∷ olds) (n ∷ news) (c ∷ cuts) all can =
     (subst (λ (list : List ℕ). CanReadFrom list c) (sym all.0.sized) can.0, still_can held sizes lowest highest faults olds news cuts all.1 can.1)
 
+-- so can those of the checkpoint that is used
 pub used_can : {S : Type 0} (held : S → List (List ℕ)) (sizes : S → List ℕ) (lowest highest : S → Option Place) (faults : S → ℕ) (olds news : List S) (used : Option Checkpoint) → AllZip (IsSourceKept held sizes lowest highest faults) olds news
     → IfSome used (λ (point : Checkpoint). AllZip (λ (source : S) (cut : RestartPoint). CanReadFrom (sizes source) cut) olds point.nodes) → IfSome used (λ (point : Checkpoint). AllZip (λ (source : S) (cut : RestartPoint). CanReadFrom (sizes source) cut) news point.nodes)
 used_can held sizes lowest highest faults olds news None all can = tt

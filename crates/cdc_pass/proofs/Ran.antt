@@ -32,6 +32,7 @@ nothing_merged merge jobs disks took gave did =
     subst (λ (takes : List (List NodeItem)). MergeDid 1 merge takes (nothing_for disks)) (same_nothing merge.took jobs took)
     (subst (λ (gives : List (List DumpItem)). MergeDid 1 merge (nothing_for merge.took) gives) (same_nothing merge.slots disks gave) did)
 
+-- jobs that read on hold the same bytes
 zip_held : {S : Type 0} (s : SourceWords S) (jobs laters : List (SourcedStage S)) → AllZip (HasReadOn s) jobs laters → map s.held (sources_of laters) ≡ map s.held (sources_of jobs)
 zip_held s [] [] all = refl
 zip_held s [] (l ∷ laters) all = absurd all
@@ -45,6 +46,7 @@ module _ {S D : Type 0} (s : SourceWords S) (w : DiskWords D) where
   still_held rotation dumpers behind jobs merge laters later outs outs_now task task_now outcome (inl nothing) = ap (λ (js : List (SourcedStage S)). map s.held (sources_of js)) nothing.0
   still_held rotation dumpers behind jobs merge laters later outs outs_now task task_now outcome (inr ran) = zip_held s jobs laters ran.ran.ended.nodes_on
 
+  -- jobs that were run in windows, as a pass that ran its windows
   windows_ran : (plan : OutputPlan) (from : PassStart) (dumpers : List DumperState) (behind : Option (ℕ × Key)) (jobs : List (SourcedStage S)) (merge : MergeState) (laters : List (SourcedStage S)) (later : MergeState)
       (nodes nodes_now : List S) (outs outs_now : List D) (task task_now : D) (outcome : Outcome)
       → sources_of jobs ≡ nodes → sources_of laters ≡ nodes_now → AllBegin 1 from.last from.points jobs → merge.start ≡ merge_start_of from → merge.maker.rules ≡ plan.rules → merge.maker.rotation ≡ plan.rotation

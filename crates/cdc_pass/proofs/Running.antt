@@ -21,7 +21,7 @@ use Rattle.cdc_headline.specs.Laws.{OpeningKeepsHeadline, WindowsKeepHeadline, W
 use Rattle.cdc_headline.specs.Running.{IsPassOver, HasOpened, KeepsSource, HasRunWindows}
 use Rattle.cdc_pass.specs.Starting.{DidNothing}
 use Rattle.cdc_pass.proofs.Causes.{all_unrefused}
-use Rattle.cdc_pass.proofs.Opened.{same_start, rose_since, task_rose_since, zip_long}
+use Rattle.cdc_pass.proofs.Opened.{same_start, rose_since, rose_from, zip_long}
 
 -- what a pass did behind its opening
 abbrev pub DidBehind : {S D : Type 0} → SourceWords S → DiskWords D → OutputPlan → Opened → List S → List S → List D → List D → D → D → Outcome → Type 0
@@ -29,12 +29,15 @@ DidBehind s w plan opened mid nodes_now outs_mid outs_now task_mid task_now outc
     DidNothing mid nodes_now outs_mid outs_now task_mid task_now outcome
     ⊎ HasRunWindows s w plan (opened_start mid opened) opened.dumpers.items (pass_start opened.kept opened.start) mid nodes_now outs_mid outs_now task_mid task_now outcome
 
+-- want of memory names no disk
 no_disk : (number : ℕ) → Memory ≡ Disk number → ⊥
 no_disk number same = let e : place_of_outcome Memory ≡ place_of_outcome (Disk number) = ap place_of_outcome same in omega (arith, e)
 
+-- nor the task's
 no_task : Memory ≡ TaskDisk → ⊥
 no_task same = let e : place_of_outcome Memory ≡ place_of_outcome TaskDisk = ap place_of_outcome same in omega (arith, e)
 
+-- nor a source
 no_read : (number : ℕ) → Memory ≡ Read number → ⊥
 no_read number same = let e : place_of_outcome Memory ≡ place_of_outcome (Read number) = ap place_of_outcome same in omega (arith, e)
 
@@ -54,6 +57,7 @@ module _ {S D : Type 0} (s : SourceWords S) (w : DiskWords D) where
       (subst (λ (start : PassStart). HasRunWindows s w plan start opened.dumpers.items (pass_start opened.kept opened.start) mid nodes_now outs_mid outs_now task_mid task_now outcome)
       (same_start mid nodes (used_point opened.start opened.kept) (sym (zip_long (KeepsSource s) nodes mid has.nodes_kept))) ran)
 
+  -- what was done behind the opening names a device only where its count rose since
   names_behind : WindowsNameByCounts s w → (plan : OutputPlan) (mid nodes_now : List S) (outs_mid outs_now : List D) (task_mid task_now : D) (opened : Opened) (outcome : Outcome)
       → DidBehind s w plan opened mid nodes_now outs_mid outs_now task_mid task_now outcome → NamesByCounts s w mid nodes_now outs_mid outs_now task_mid task_now outcome
   names_behind windows plan mid nodes_now outs_mid outs_now task_mid task_now opened outcome (inl nothing) = record {
@@ -72,7 +76,7 @@ module _ {S D : Type 0} (s : SourceWords S) (w : DiskWords D) where
       record {
         outs_rose = λ number is.
             rose_since w.faults (IsOutKept w.tells w.seen w.may_leave w.moment w.left_since w.faults) (λ old new kept. kept.later) outs outs_mid outs_now number outs_kept (names.outs_rose number is);
-        task_rose = λ is. task_rose_since (w.faults task) (w.faults task_mid) (w.faults task_now) task_kept.later (names.task_rose is);
+        task_rose = λ is. rose_from (w.faults task) (w.faults task_mid) (w.faults task_now) task_kept.later (names.task_rose is);
         nodes_rose = λ number is. rose_since s.faults (KeepsSource s) (λ old new kept. kept.later) nodes mid nodes_now number nodes_kept (names.nodes_rose number is);
       }
 
@@ -85,28 +89,33 @@ module _ {S D : Type 0} (s : SourceWords S) (w : DiskWords D) where
 
   -- ---- over lists that were lent as slices
 
+  -- what a pass did over lists that are as others
   pub lent_behind : (plan : OutputPlan) (opened : Opened) (ns nodes_now : List S) (ds outs_now : List D) (task_mid task_now : D) (outcome : Outcome) (mid : List S) (outs_mid : List D)
       → DidBehind s w plan opened ns nodes_now ds outs_now task_mid task_now outcome → ns ≡ mid → ds ≡ outs_mid → DidBehind s w plan opened mid nodes_now outs_mid outs_now task_mid task_now outcome
   lent_behind plan opened ns nodes_now ds outs_now task_mid task_now outcome mid outs_mid did nodes_same outs_same =
       subst (λ (list : List S). DidBehind s w plan opened list nodes_now outs_mid outs_now task_mid task_now outcome) nodes_same
       (subst (λ (list : List D). DidBehind s w plan opened ns nodes_now list outs_now task_mid task_now outcome) outs_same did)
 
+  -- what an opening answered
   pub lent_opened : (plan : OutputPlan) (ns mid : List S) (ds outs_mid : List D) (task task_mid : D) (result : Result Opened Outcome) (nodes : List S) (outs : List D)
       → HasOpened s w plan ns mid ds outs_mid task task_mid result → ns ≡ nodes → ds ≡ outs → HasOpened s w plan nodes mid outs outs_mid task task_mid result
   lent_opened plan ns mid ds outs_mid task task_mid result nodes outs has nodes_same outs_same =
       subst (λ (list : List S). HasOpened s w plan list mid outs outs_mid task task_mid result) nodes_same (subst (λ (list : List D). HasOpened s w plan ns mid list outs_mid task task_mid result) outs_same has)
 
+  -- the headline
   pub lent_headline : (plan : OutputPlan) (logs : List NodeLog) (nodes mid ns : List S) (outs outs_mid ds : List D) (task task_now : D) (outcome : Outcome)
       → Headline s w plan logs nodes mid outs outs_mid task task_now outcome → mid ≡ ns → outs_mid ≡ ds → Headline s w plan logs nodes ns outs ds task task_now outcome
   lent_headline plan logs nodes mid ns outs outs_mid ds task task_now outcome keeps nodes_same outs_same =
       subst (λ (list : List S). Headline s w plan logs nodes list outs ds task task_now outcome) nodes_same (subst (λ (list : List D). Headline s w plan logs nodes mid outs list task task_now outcome) outs_same keeps)
 
+  -- names by counts
   pub lent_names : (ns nodes_now : List S) (ds outs_now : List D) (task task_now : D) (outcome : Outcome) (nodes : List S) (outs : List D)
       → NamesByCounts s w ns nodes_now ds outs_now task task_now outcome → ns ≡ nodes → ds ≡ outs → NamesByCounts s w nodes nodes_now outs outs_now task task_now outcome
   lent_names ns nodes_now ds outs_now task task_now outcome nodes outs names nodes_same outs_same =
       subst (λ (list : List S). NamesByCounts s w list nodes_now outs outs_now task task_now outcome) nodes_same
       (subst (λ (list : List D). NamesByCounts s w ns nodes_now list outs_now task task_now outcome) outs_same names)
 
+-- a count that rose
 pub lent_rose : {A : Type 0} (faults : A → ℕ) (number : ℕ) (olds news firsts lasts : List A) → DeviceRoseAt (map faults olds) (map faults news) number → olds ≡ firsts → news ≡ lasts → DeviceRoseAt (map faults firsts) (map faults lasts) number
 lent_rose {A} faults number olds news firsts lasts rose old new =
     subst (λ (list : List A). DeviceRoseAt (map faults list) (map faults lasts) number) old (subst (λ (list : List A). DeviceRoseAt (map faults olds) (map faults list) number) new rose)
