@@ -94,6 +94,13 @@ impl HeldSource {
         }
     }
 
+    /// The bytes that are kept, also where each call fails.
+    pub fn bytes(&self) -> &[u8]
+        ensures { result.now ≡ bytes_kept self.now }
+    {
+        self.bytes.as_slice()
+    }
+
     /// How many calls failed.
     pub fn faults(&self) -> u64
         ensures { result ≡ held_faults self.now }

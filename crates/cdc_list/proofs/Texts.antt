@@ -7,7 +7,7 @@ use Rattle.cdc_outside.specs.Disk.{Image}
 use Rattle.cdc_model.specs.Transaction.{numbers_from}
 use Rattle.cdc_records.specs.declared.front.Front.{Front}
 use Rattle.cdc_records.specs.Published.{published_file}
-use Rattle.cdc_list.specs.Lines.{file_line, file_lines, out_line, out_lines, listed_out, listed_outs, listing_lines}
+use Rattle.cdc_list.specs.Lines.{file_line, file_lines, out_line, out_lines, listed_out, listed_outs, listing_lines, front_lines}
 
 -- ---- the files of an out
 
@@ -84,4 +84,32 @@ pub outs_all : (text more : List ℕ) (fronts : List Front) (images : List Image
 outs_all text more fronts images index h so_far =
     let none : drop index fronts ≡ [] = drop_all index fronts h in
     let nothing : outs_left fronts images index ≡ [] = ap (λ (l : List Front). concat (listing_lines (index + 1) (listed_outs l (drop index images)))) none in
+    sym (append-nil more) ∙ (ap (λ (l : List ℕ). more ++ l) (sym nothing) ∙ so_far)
+
+-- ---- the outs' own lines
+
+-- their text from an index on
+abbrev pub fronts_left : List Front → ℕ → List ℕ
+fronts_left fronts index = concat (front_lines (index + 1) (drop index fronts))
+
+-- it begins with the line of the out at the index
+pub fronts_next : (fronts : List Front) (index : ℕ) (f : Front) → index < length fronts → get_or fronts index f ≡ f
+    → fronts_left fronts index ≡ out_line (index + 1) f ++ fronts_left fronts (index + 1)
+fronts_next fronts index f below is =
+    let one : drop index fronts ≡ f ∷ drop (index + 1) fronts = drop_more fronts index f below ∙ ap (λ (g : Front). g ∷ drop (index + 1) fronts) is in
+    ap (λ (l : List Front). concat (front_lines (index + 1) l)) one
+
+-- one line more
+pub fronts_more : (text more next : List ℕ) (fronts : List Front) (index : ℕ) (f : Front) → index < length fronts → get_or fronts index f ≡ f
+    → next ≡ more ++ out_line (index + 1) f → more ++ fronts_left fronts index ≡ text → next ++ fronts_left fronts (index + 1) ≡ text
+fronts_more text more next fronts index f below is step so_far =
+    ap (λ (l : List ℕ). l ++ fronts_left fronts (index + 1)) step
+    ∙ (append_assoc more (out_line (index + 1) f) (fronts_left fronts (index + 1))
+    ∙ (ap (λ (l : List ℕ). more ++ l) (sym (fronts_next fronts index f below is)) ∙ so_far))
+
+-- behind the last out nothing is left
+pub fronts_all : (text more : List ℕ) (fronts : List Front) (index : ℕ) → length fronts ≤ index → more ++ fronts_left fronts index ≡ text → more ≡ text
+fronts_all text more fronts index h so_far =
+    let none : drop index fronts ≡ [] = drop_all index fronts h in
+    let nothing : fronts_left fronts index ≡ [] = ap (λ (l : List Front). concat (front_lines (index + 1) l)) none in
     sym (append-nil more) ∙ (ap (λ (l : List ℕ). more ++ l) (sym nothing) ∙ so_far)

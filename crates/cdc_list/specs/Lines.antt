@@ -54,3 +54,12 @@ listed_outs _ _ = []
 -- the text of outs, which are counted from 1: their lines, one behind another
 abbrev pub listing_text : List ListedOut → List ℕ
 listing_text outs = concat (listing_lines 1 outs)
+
+-- the own lines of outs by their Fronts, numbered from a number on
+abbrev pub front_lines : ℕ → List Front → List (List ℕ)
+front_lines out [] = []
+front_lines out (f ∷ fronts) = out_line out f ∷ front_lines (out + 1) fronts
+
+-- the text of these outs' own lines, counted from 1
+abbrev pub fronts_text : List Front → List ℕ
+fronts_text fronts = concat (front_lines 1 fronts)

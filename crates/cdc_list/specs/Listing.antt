@@ -10,7 +10,7 @@ use Rattle.cdc_dumper.specs.declared.fault.OpenFault.TheVariants.{DiskFault}
 use Rattle.cdc_dumper.specs.Opening.{IsFound, IsOpenFault}
 use Rattle.cdc_list.specs.declared.list_end.ListEnd.{ListEnd}
 use Rattle.cdc_list.specs.declared.list_end.ListEnd.TheVariants.{Done, Unopened, Disk, Memory, Sink}
-use Rattle.cdc_list.specs.Lines.{listed_outs, listing_text}
+use Rattle.cdc_list.specs.Lines.{listed_outs, listing_text, fronts_text}
 
 -- a listing as it is seen from outside: what the disks show, and their counts of faults before and now; what the sink has before and now,
 -- and its counts
@@ -72,6 +72,12 @@ pub record IsListing (images : List Image) (text : List ℕ) : Type 0 where
   pub found : AllZip IsFound images fronts
   pub is : text ≡ listing_text (listed_outs fronts images)
 
+-- the text of contents' own lines: each has a Front, and the lines are those of the Fronts
+pub record IsFrontsText (images : List Image) (text : List ℕ) : Type 0 where
+  pub fronts : List Front
+  pub found : AllZip IsFound images fronts
+  pub is : text ≡ fronts_text fronts
+
 -- how a listing ended before anything was written, and why
 abbrev pub IsStopped : Bool → List Image → List ℕ → List ℕ → ListEnd → Type 0
 IsStopped told images before now Done = ⊥
@@ -84,15 +90,23 @@ IsStopped told images before now Sink = ⊥
 abbrev pub IsStoppedSilent : Bool → Bool → ListRun → ListEnd → Type 0
 IsStoppedSilent told shown run end = IsStopped told run.images run.failed_before run.failed_now end × (IsTrue shown → run.out_now ≡ run.out_before)
 
--- how a listing ended, and why, where the disks tell what they have and the sink what it was given
-abbrev pub IsListEnd : Bool → Bool → ListRun → ListEnd → Type 0
-IsListEnd told shown run Done = IsTrue told → (text : List ℕ) × IsListing run.images text × (IsTrue shown → run.out_now ≡ run.out_before ++ text)
-IsListEnd told shown run (Unopened out fault) = IsStoppedSilent told shown run (Unopened out fault)
-IsListEnd told shown run (Disk out) = IsStoppedSilent told shown run (Disk out)
-IsListEnd told shown run Memory = IsStoppedSilent told shown run Memory
-IsListEnd told shown run Sink =
+-- how the writing of such a text ended, and why, where the disks tell what they have and the sink what it was given
+abbrev pub IsTextEnd : (List Image → List ℕ → Type 0) → Bool → Bool → ListRun → ListEnd → Type 0
+IsTextEnd IsText told shown run Done = IsTrue told → (text : List ℕ) × IsText run.images text × (IsTrue shown → run.out_now ≡ run.out_before ++ text)
+IsTextEnd IsText told shown run (Unopened out fault) = IsStoppedSilent told shown run (Unopened out fault)
+IsTextEnd IsText told shown run (Disk out) = IsStoppedSilent told shown run (Disk out)
+IsTextEnd IsText told shown run Memory = IsStoppedSilent told shown run Memory
+IsTextEnd IsText told shown run Sink =
     Rose run.faults_before run.faults_now
-    × (IsTrue told → (text : List ℕ) × IsListing run.images text × (IsTrue shown → WritesTo run.out_before text run.out_now))
+    × (IsTrue told → (text : List ℕ) × IsText run.images text × (IsTrue shown → WritesTo run.out_before text run.out_now))
+
+-- how a listing ended
+abbrev pub IsListEnd : Bool → Bool → ListRun → ListEnd → Type 0
+IsListEnd told shown run end = IsTextEnd IsListing told shown run end
+
+-- how the writing of the outs' own lines ended
+abbrev pub IsFrontsEnd : Bool → Bool → ListRun → ListEnd → Type 0
+IsFrontsEnd told shown run end = IsTextEnd IsFrontsText told shown run end
 
 -- ---- laws
 

@@ -29,7 +29,10 @@ fn look_at<D: Disk>(outs: &mut Vec<D>, index: usize) -> Result<Front, OpenFault>
 }
 
 /// The Fronts of all outs, where each can be opened.
-fn look_at_each<D: Disk>(alloc: Global, outs: &mut Vec<D>) -> Result<Items<Front>, ListEnd>
+pub(crate) fn look_at_each<D: Disk>(
+    alloc: Global,
+    outs: &mut Vec<D>,
+) -> Result<Items<Front>, ListEnd>
     requires { length outs.old.items < 2 ^ 32 }
     ensures found { IsTrue D.tells → IfOk result (λ fronts. AllZip IsFound (map D.seen outs.old.items) fronts) }
     ensures many { IfOk result (λ fronts. length fronts ≡ length outs.old.items) }

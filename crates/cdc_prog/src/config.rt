@@ -1,11 +1,12 @@
 //! The configuration of a command, and the disks that it names.
 
-ghost use Rattle.std.specs.Prelude.{◌≡◌, ◌<◌, ◌^◌, length, IfOk};
+ghost use Rattle.std.specs.Prelude.{◌≡◌, ◌<◌, ◌^◌, true, length, IfOk};
+ghost use Rattle.cdc_files.specs.Held.{bytes_kept};
+ghost use Rattle.cdc_top.specs.Ran.{IsFitToRun};
 
 use cdc_base::{Memory, Text, TextList};
-use cdc_config::{Command, Plan, Refusal, command_of, paths, plan_of};
+use cdc_config::{Command, Plan, Refusal, TextLists, command_of, paths, plan_of};
 use cdc_files::{FileDisk, HeldSource};
-use cdc_outside::{ReadWholeError, read_whole};
 use std::alloc::Global;
 use std::fs::{Files, OpenFile};
 use std::io::Read;
@@ -17,57 +18,63 @@ pub fn open_config<F: Read + OpenFile + Drop, R: AllocGlobal + Files<File = F>>(
     words: &[Text],
 ) -> Result<HeldSource, Memory> {
     match command_of(rt.alloc(), words) {
-        Ok(Command::List { config }) => HeldSource::open(rt, &config),
+        Ok(Command::List { config } | Command::Run { config, .. }) => HeldSource::open(rt, &config),
         Ok(_) => HeldSource::new::<F>(rt.alloc(), None),
         Err(Refusal::Memory) => Err(Memory),
         Err(_) => HeldSource::new::<F>(rt.alloc(), None),
     }
 }
 
-/// The folders of the outs and of the task, and the addresses of the outs, empty where one has none.
+/// The files of the nodes, the folders of the outs and of the task, and the addresses of the outs, empty where one has none.
 #[derive(Debug, Drop)]
-pub struct Folders {
+pub struct Places {
+    pub nodes: TextLists,
     pub outs: TextList,
     pub listen: TextList,
     pub task: Text,
     pub ghost few: { length outs < 2 ^ 31 },
 }
 
-/// No out, and the folder that is at hand.
-fn no_folders(alloc: Global) -> Result<Folders, Memory> {
-    Ok(Folders {
+/// No node and no out, and the folder that is at hand.
+fn no_places(alloc: Global) -> Result<Places, Memory> {
+    Ok(Places {
+        nodes: TextLists::new(alloc),
         outs: TextList::new(alloc),
         listen: TextList::new(alloc),
         task: Text::of(alloc, "")?,
     })
 }
 
-/// The folders of a plan.
-fn folders_of(alloc: Global, plan: &Plan) -> Result<Folders, Memory> {
+/// The places of a plan.
+fn places_of(alloc: Global, plan: &Plan) -> Result<Places, Memory>
+    ensures nodes { IfOk result (λ places. places.nodes ≡ plan.now.paths.node_files) }
+    ensures outs { IfOk result (λ places. places.outs ≡ plan.now.paths.out_folders) }
+{
     let paths = paths(alloc, plan)?;
-    Ok(Folders {
+    Ok(Places {
+        nodes: paths.node_files,
         outs: paths.out_folders,
         listen: paths.listen,
         task: paths.task_folder,
     })
 }
 
-/// The folders that a text names; none where it is no configuration.
-fn folders_in(alloc: Global, text: &[u8]) -> Result<Folders, Memory> {
+/// The places that a text names; none where it is no configuration.
+fn places_in(alloc: Global, text: &[u8]) -> Result<Places, Memory>
+    ensures { IfOk result (λ places. IsFitToRun true text.now (length places.nodes) (length places.outs)) }
+{
     match plan_of(alloc, text) {
-        Ok(plan) => folders_of(alloc, &plan),
+        Ok(plan) => places_of(alloc, &plan),
         Err(Refusal::Memory) => Err(Memory),
-        Err(_) => no_folders(alloc),
+        Err(_) => no_places(alloc),
     }
 }
 
-/// The folders that a configuration names; none where it can't be read or is none.
-pub fn read_folders(alloc: Global, config: &mut HeldSource) -> Result<Folders, Memory> {
-    match read_whole(alloc, config, 1) {
-        Ok(text) => folders_in(alloc, text.bytes()),
-        Err(ReadWholeError::Failed) => no_folders(alloc),
-        Err(ReadWholeError::Memory) => Err(Memory),
-    }
+/// The places that a configuration names; none where it is none.
+pub fn read_places(alloc: Global, config: &HeldSource) -> Result<Places, Memory>
+    ensures { IfOk result (λ places. IsFitToRun true (bytes_kept config.now) (length places.nodes) (length places.outs)) }
+{
+    places_in(alloc, config.bytes())
 }
 
 /// Disks over the folders of the outs and of the task.
@@ -92,14 +99,14 @@ pub fn over_each<'a, F: FileExt + OpenFile + Drop, R: AllocGlobal + Files<File =
     Ok(disks)
 }
 
-/// The disks of the folders that a configuration names, of which nothing is opened or made as yet: none for outs where
-/// it can't be read or is none.
+/// The disks of folders, of which nothing is opened or made as yet.
 pub fn open_disks<'a, F: FileExt + OpenFile + Drop, R: AllocGlobal + Files<File = F>>(
     rt: &'a R,
-    config: &mut HeldSource,
-) -> Result<Disks<&'a R, F>, Memory> {
-    let folders = read_folders(rt.alloc(), config)?;
-    let outs = over_each(rt, folders.outs.as_slice())?;
-    let task = FileDisk::new(rt, rt.alloc(), &folders.task)?;
+    places: &Places,
+) -> Result<Disks<&'a R, F>, Memory>
+    ensures { IfOk result (λ disks. length disks.outs.items ≡ length places.now.outs) }
+{
+    let outs = over_each(rt, places.outs.as_slice())?;
+    let task = FileDisk::new(rt, rt.alloc(), &places.task)?;
     Ok(Disks { outs, task })
 }

@@ -1,6 +1,7 @@
 //! The program `cdc`: the top call over real files, folders and the standard streams.
 //!
 //! `cdc print FILE ..` reads one log a node, and writes the transactions of all of them to standard output;
+//! `cdc run CONFIG` publishes what is settled in the logs of a configuration's nodes to the folders of its outputs;
 //! `cdc list CONFIG` prints what the folders of the outputs have published; `cdc serve CONFIG` serves it to clients at the
 //! outputs' addresses; `cdc --help` lists the commands. What the program answers is `top`'s and `top_serve`'s to say; here
 //! the words and the configuration are read, files, folders and ports found and the status handed back.
@@ -15,7 +16,7 @@ mod nodes;
 mod serving;
 mod words;
 
-use crate::config::{Disks, open_config, open_disks};
+use crate::config::{Disks, open_config, open_disks, read_places};
 use crate::nodes::open_nodes;
 use crate::serving::serve;
 use crate::words::words_of;
@@ -42,8 +43,9 @@ fn answer_here<
     W: Write + Drop,
 >(rt: &R, words: &[Text], out: &mut StdSink<W>, err: &mut StdSink<W>) -> Result<u8, Memory> {
     let mut config = open_config(rt, words)?;
-    let mut nodes = open_nodes(rt, words)?;
-    let Disks { mut outs, mut task } = open_disks(rt, &mut config)?;
+    let places = read_places(rt.alloc(), &config)?;
+    let mut nodes = open_nodes(rt, words, &places)?;
+    let Disks { mut outs, mut task } = open_disks(rt, &places)?;
     Ok(top(
         rt.alloc(),
         words,

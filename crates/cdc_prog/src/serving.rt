@@ -2,7 +2,7 @@
 
 ghost use Rattle.std.specs.Prelude.{◌≡◌, length, IfOk};
 
-use crate::config::{over_each, read_folders};
+use crate::config::{over_each, read_places};
 use cdc_base::{Memory, Text, TextList};
 use cdc_files::{HeldSource, SystemSalt, TcpDoor};
 use cdc_outside::Sink;
@@ -79,10 +79,10 @@ pub fn serve<
     err: &mut K,
 ) -> Result<u8, Memory> {
     let mut config = HeldSource::open(rt, path)?;
-    let folders = read_folders(rt.alloc(), &mut config)?;
-    let count = folders.outs.len();
-    let mut outs = over_each(rt, folders.outs.as_slice())?;
-    let mut doors = doors_at(rt, &folders.listen, count, connections)?;
+    let places = read_places(rt.alloc(), &config)?;
+    let count = places.outs.len();
+    let mut outs = over_each(rt, places.outs.as_slice())?;
+    let mut doors = doors_at(rt, &places.listen, count, connections)?;
     let mut salts = salts_over(rt, count)?;
     Ok(top_serve(
         rt,

@@ -4,8 +4,8 @@ use Rattle.cdc_base.specs.declared.place.Place.{Place}
 use Rattle.cdc_config.specs.declared.command.ConfigKey.{ConfigKey}
 use Rattle.cdc_config.specs.Plan.{refused_key}
 use Rattle.cdc_config.specs.Words.{command_from}
-use Rattle.cdc_dumper.specs.declared.fault.OpenFault.{OpenFault}
 use Rattle.cdc_dumper.specs.declared.fault.OpenFault.TheVariants.{DiskFault, BadCell, BadFront}
+use Rattle.cdc_opening.specs.declared.outcome.Outcome.{Outcome}
 use Rattle.cdc_outside.specs.Count.{Rose}
 use Rattle.cdc_model.specs.declared.fault.NodeFault.{NodeFault}
 use Rattle.cdc_model.specs.declared.node_log.NodeLog.{NodeLog}
@@ -14,7 +14,7 @@ use Rattle.cdc_model.specs.Output.{beyond_the_file}
 use Rattle.cdc_print.specs.Outcome.{AreNodeLogs, AreClean, IsLeastFault, NothingBeyond, IsBeyond, IsLeastFailed, WereAllRead}
 use Rattle.cdc_recovery.specs.Laws.{ImageHasOneFront}
 use Rattle.cdc_top.specs.declared.answer.Answer.{Answer}
-use Rattle.cdc_top.specs.declared.answer.Answer.TheVariants.{Done, Usage, Config, Node, ReadConfig, Read, Disk, TooLarge, Unopened, Memory, Sink}
+use Rattle.cdc_top.specs.declared.answer.Answer.TheVariants.{Done, Usage, Config, Node, ReadConfig, Read, Disk, TooLarge, Unopened, TaskDisk, TaskCell, TaskNodes, TaskRotation, Behind, Differs, OtherKey, Memory, Sink}
 use Rattle.cdc_top.specs.declared.findings.Findings.{Findings}
 use Rattle.cdc_top.specs.declared.findings.UnopenedOut.{UnopenedOut}
 use Rattle.cdc_top.specs.declared.findings.Oversized.{Oversized}
@@ -22,7 +22,7 @@ use Rattle.cdc_top.specs.declared.findings.Faulty.{Faulty}
 use Rattle.cdc_top.specs.Answers.{status_of}
 use Rattle.cdc_top.specs.Order.{answer_of}
 use Rattle.cdc_top.specs.Words.{is_command, IsList, IsPrint}
-use Rattle.cdc_top.specs.Call.{TopCall, HadBytesAndMemory, HadAllToList, AreFindings, WroteFor, IsText, IsCleanPrint, IsAccepted, CanBeListed, IsLeastUnopened, HasFailed, IsOpenList, NoneFailedInList, IsAnswered}
+use Rattle.cdc_top.specs.Call.{TopCall, HadBytesAndMemory, AreFindings, WroteFor, IsText, IsCleanPrint, CanBeListed, IsLeastUnopened, HasFailed, IsAnswered}
 use Rattle.cdc_top.proofs.Facts.{apart, print_is_command, list_is_command, is_some_command, no_list_print, no_list_text, clean_has_none}
 use Rattle.cdc_top.proofs.ListFindings.{only_its_disk, other_key}
 use Rattle.cdc_top.proofs.TextFindings.{no_print, text_command}
@@ -51,14 +51,22 @@ Says told call (Read node) = IsPrint call.words × IsLeastFailed told call.run n
 Says told call (Disk out) = IsList call.words × HasFailed call.config call.outs out
 Says told call (TooLarge number bytes) = IsPrint call.words × (IsTrue told → IsBeyond call.run.nodes number bytes) × HasReadAll told call
 Says told call (Unopened out fault) = IsList call.words × IsLeastUnopened call.config call.outs out fault
+Says told call TaskDisk = ⊥
+Says told call TaskCell = ⊥
+Says told call (TaskNodes kept given) = ⊥
+Says told call (TaskRotation kept given) = ⊥
+Says told call (Behind node kept given) = ⊥
+Says told call (Differs out kept given) = ⊥
+Says told call (OtherKey out kept given) = ⊥
 Says told call Memory = command_from call.words ≡ None → ⊥
 Says told call Sink = (is_command call.words ≡ true) × IsFree told call × Rose call.run.faults_before call.run.faults_now × HasReadAll told call × HasListed call
 
-abbrev found_of : Bool → Bool → Option ConfigKey → Option UnopenedOut → Option ℕ → Option ℕ → Bool → Option Oversized → Option Faulty → Bool → Findings
-found_of usage config_unread config_refused unopened failed unread wanting oversized faulty sink = record {
+abbrev found_of : Bool → Bool → Option ConfigKey → Option Outcome → Option UnopenedOut → Option ℕ → Option ℕ → Bool → Option Oversized → Option Faulty → Bool → Findings
+found_of usage config_unread config_refused passed unopened failed unread wanting oversized faulty sink = record {
   usage = usage;
   config_unread = config_unread;
   config_refused = config_refused;
+  passed = passed;
   unopened = unopened;
   failed = failed;
   unread = unread;
@@ -70,7 +78,7 @@ found_of usage config_unread config_refused unopened failed unread wanting overs
 
 -- nothing was met with before the sink
 abbrev free_found : Bool → Findings
-free_found sink = found_of false false None None None None false None None sink
+free_found sink = found_of false false None None None None None false None None sink
 
 free : (told : Bool) (call : TopCall) (sink : Bool) → AreFindings told call (free_found sink) → IsFree told call
 free told call sink a = λ p t.
@@ -81,35 +89,36 @@ listed : (told : Bool) (call : TopCall) (sink : Bool) → AreFindings told call 
 listed told call sink a = λ l. (a.list l).all (record { read = refl; accepted = refl; opened = refl; lasted = refl; memory = refl })
 
 -- the answer to what was met with says so
-said_by : (told : Bool) (call : TopCall) (usage config_unread : Bool) (config_refused : Option ConfigKey) (unopened : Option UnopenedOut) (failed unread : Option ℕ) (wanting : Bool) (oversized : Option Oversized)
-    (faulty : Option Faulty) (sink : Bool) → AreFindings told call (found_of usage config_unread config_refused unopened failed unread wanting oversized faulty sink)
-    → Says told call (answer_of (found_of usage config_unread config_refused unopened failed unread wanting oversized faulty sink))
-said_by told call true config_unread config_refused unopened failed unread wanting oversized faulty sink a = a.usage refl
-said_by told call false true config_refused unopened failed unread wanting oversized faulty sink a =
+said_by : (told : Bool) (call : TopCall) (usage config_unread : Bool) (config_refused : Option ConfigKey) (passed : Option Outcome) (unopened : Option UnopenedOut) (failed unread : Option ℕ) (wanting : Bool) (oversized : Option Oversized)
+    (faulty : Option Faulty) (sink : Bool) → AreFindings told call (found_of usage config_unread config_refused passed unopened failed unread wanting oversized faulty sink)
+    → Says told call (answer_of (found_of usage config_unread config_refused passed unopened failed unread wanting oversized faulty sink))
+said_by told call true config_unread config_refused passed unopened failed unread wanting oversized faulty sink a = a.usage refl
+said_by told call false true config_refused passed unopened failed unread wanting oversized faulty sink a =
     ⊎_elim (λ l. (l, (a.list l).unread refl)) (λ bare. absurd (apart bare.read)) a.no_list
-said_by told call false false (Some key) unopened failed unread wanting oversized faulty sink a =
+said_by told call false false (Some key) passed unopened failed unread wanting oversized faulty sink a =
     ⊎_elim (λ l. (l, (a.list l).refused)) (λ bare. absurd (let e = bare.accepted in cc)) a.no_list
-said_by told call false false None (Some shelf) failed unread wanting oversized faulty sink a =
+said_by told call false false None (Some outcome) unopened failed unread wanting oversized faulty sink a = absurd (let e = a.no_pass in cc)
+said_by told call false false None None (Some shelf) failed unread wanting oversized faulty sink a =
     ⊎_elim (λ l. (l, (a.list l).unopened)) (λ bare. absurd (let e = bare.opened in cc)) a.no_list
-said_by told call false false None None (Some out) unread wanting oversized faulty sink a =
+said_by told call false false None None None (Some out) unread wanting oversized faulty sink a =
     ⊎_elim (λ l. (l, (a.list l).failed)) (λ bare. absurd (let e = bare.lasted in cc)) a.no_list
-said_by told call false false None None None (Some node) wanting oversized faulty sink a =
+said_by told call false false None None None None (Some node) wanting oversized faulty sink a =
     ⊎_elim (λ p. (p, (a.print p).unread)) (λ bare. absurd (let e = bare.unread in cc)) a.other
-said_by told call false false None None None None true oversized faulty sink a = λ none. apart (sym (a.words none))
-said_by told call false false None None None None false (Some txn) faulty sink a =
+said_by told call false false None None None None None true oversized faulty sink a = λ none. apart (sym (a.words none))
+said_by told call false false None None None None None false (Some txn) faulty sink a =
     ⊎_elim (λ p. (p, λ t. (a.print p).oversized t (record { sources = refl; memory = refl }), λ q. (a.print p).read (record { sources = refl; memory = refl }))) (λ bare. absurd (let e = bare.oversized in cc)) a.other
-said_by told call false false None None None None false None (Some log) sink a =
+said_by told call false false None None None None None false None (Some log) sink a =
     ⊎_elim
     (λ p. (p, λ t. ((a.print p).oversized t (record { sources = refl; memory = refl }), (a.print p).faulty t (record { sources = refl; memory = refl }) refl), λ q. (a.print p).read (record { sources = refl; memory = refl })))
     (λ bare. absurd (let e = bare.faulty in cc)) a.other
-said_by told call false false None None None None false None None true a =
+said_by told call false false None None None None None false None None true a =
     (a.command refl refl, free told call true a, a.sink refl, λ p. (a.print p).read (record { sources = refl; memory = refl }), listed told call true a)
-said_by told call false false None None None None false None None false a =
+said_by told call false false None None None None None false None None false a =
     (a.command refl refl, free told call false a, λ p. (a.print p).read (record { sources = refl; memory = refl }), listed told call false a)
 
 said : (told : Bool) (call : TopCall) (found : Findings) → AreFindings told call found → Says told call (answer_of found)
 said told call found a =
-    said_by told call found.usage found.config_unread found.config_refused found.unopened found.failed found.unread found.wanting found.oversized found.faulty found.sink a
+    said_by told call found.usage found.config_unread found.config_refused found.passed found.unopened found.failed found.unread found.wanting found.oversized found.faulty found.sink a
 
 -- no room for all, and room for all
 no_room : (nodes : List (List (List ℕ))) (logs : List NodeLog) (txn : Transaction) → AreNodeLogs nodes logs → NothingBeyond nodes → beyond_the_file logs ≡ Some txn → ⊥
@@ -416,6 +425,13 @@ answered_by law told shown call (Unopened out (BadFront kept found)) a w = recor
   complete = λ clean none. absurd (no_list_clean told call a.0 clean);
   complete_list = λ clean none. absurd (none.devices.outs out (a.1.least.failed (only_its_disk law call out (BadFront kept found) clean a.1)));
 }
+answered_by law told shown call TaskDisk a w = absurd a
+answered_by law told shown call TaskCell a w = absurd a
+answered_by law told shown call (TaskNodes kept given) a w = absurd a
+answered_by law told shown call (TaskRotation kept given) a w = absurd a
+answered_by law told shown call (Behind node kept given) a w = absurd a
+answered_by law told shown call (Differs out kept given) a w = absurd a
+answered_by law told shown call (OtherKey out kept given) a w = absurd a
 answered_by law told shown call Memory a w = record {
   statuses = inr (inr (inr (inr (inr (inr (inr (inl refl)))))));
   usage = λ e. absurd (omega (arith, e));

@@ -8,7 +8,7 @@ use Rattle.cdc_model.specs.declared.node_log.NodeLog.{NodeLog}
 use Rattle.cdc_model.specs.Growth.{IsReadWhole}
 use Rattle.cdc_print.specs.Outcome.{IsFaultOf, AreClean, AreNodeLogs, IsLeastFault}
 use Rattle.cdc_config.specs.declared.command.Command.TheVariants as command
-use Rattle.cdc_top.specs.Words.{is_command_built, is_command, IsList, IsPrint}
+use Rattle.cdc_top.specs.Words.{is_command_built, is_command, IsList, IsPrint, IsRunCommand}
 use Rattle.cdc_top.specs.Call.{IsText}
 
 -- no test has two answers
@@ -30,6 +30,14 @@ is_some_command found given none = apart (sym given ∙ ap is_command_built none
 -- words that are a command are no other
 pub one_command : (words : List (List ℕ)) (found other : Command) → command_from words ≡ Some found → command_from words ≡ Some other → found ≡ other
 one_command words found other e f = let both : Some found ≡ Some other = sym e ∙ f in cc
+
+-- words that are another command, or none, are no `run`
+pub other_than_run : (words : List (List ℕ)) (found : Command) → IsRunCommand words → command_from words ≡ Some found
+    → ((config : List ℕ) (order : Option ℕ) → found ≡ command.Run config order false → ⊥) → ⊥
+other_than_run words found run is other = other run.0 run.1 (one_command words found (command.Run run.0 run.1 false) is run.2)
+
+pub run_is_some : (words : List (List ℕ)) → IsRunCommand words → command_from words ≡ None → ⊥
+run_is_some words run none = absurd (let both : Some (command.Run run.0 run.1 false) ≡ None = sym run.2 ∙ none in cc)
 
 -- no words are both `list` and `print`
 pub no_list_print : (words : List (List ℕ)) → IsList words → IsPrint words → ⊥

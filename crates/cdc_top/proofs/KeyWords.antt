@@ -1,5 +1,5 @@
 -- The words of the configuration's keys.
-use Rattle.std.proofs.Common.{◌≡◌, ℕ, ◌≤◌, List, length, codes, ap, ◌∙◌, refl, sym, arith}
+use Rattle.std.proofs.Common.{◌≤◌, length, arith}
 use Rattle.cdc_config.specs.declared.command.ConfigKey.{ConfigKey}
 use Rattle.cdc_config.specs.declared.command.ConfigKey.TheVariants.{Toml, Rotation, Window, Node, Out, Task, Table, User, Split, Unknown}
 use Rattle.cdc_config.specs.KeyWords.{key_word}

@@ -1,7 +1,9 @@
 mod Answered
+mod Behind
 mod Facts
 mod KeyWords
 mod ListFindings
 mod Planning
 mod PrintFindings
+mod RunFindings
 mod TextFindings

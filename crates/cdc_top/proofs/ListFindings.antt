@@ -1,10 +1,7 @@
 -- From what `list` came to, to what the call met with and wrote.
-use Rattle.std.proofs.Common.{◌≡◌, ℕ, ◌-◌, ◌≤◌, Bool, true, false, IsTrue, List, Option, Some, None, refl, sym, ap, ◌∙◌, subst, inl, inr, arith}
-use Rattle.std.specs.List.{AllZip}
-use Rattle.cdc_config.specs.declared.command.Command.{Command}
+use Rattle.std.proofs.Common.{◌≡◌, ℕ, ◌-◌, Bool, true, false, IsTrue, List, Option, Some, None, refl, sym, ◌∙◌, subst, inl, inr, arith}
 use Rattle.cdc_config.specs.declared.command.Command.TheVariants as command
 use Rattle.cdc_config.specs.declared.command.ConfigKey.{ConfigKey}
-use Rattle.cdc_config.specs.Plan.{refused_key}
 use Rattle.cdc_config.specs.Words.{command_from}
 use Rattle.cdc_outside.specs.Count.{Rose}
 use Rattle.cdc_outside.specs.Disk.{Image}
@@ -20,10 +17,10 @@ use Rattle.cdc_list.proofs.Complete.{openable_is, openable_at}
 use Rattle.cdc_top.specs.declared.config.ConfigStop.{ConfigStop}
 use Rattle.cdc_top.specs.declared.config.ConfigStop.TheVariants as stop
 use Rattle.cdc_top.specs.declared.findings.Findings.{Findings}
-use Rattle.cdc_top.specs.Words.{IsList, IsPrint}
+use Rattle.cdc_top.specs.Words.{IsList}
 use Rattle.cdc_top.specs.Order.{findings_of_config, findings_of_listing, answer_of}
 use Rattle.cdc_top.specs.Call.{TopCall, ConfigRun, OutsRun, listing_of, AreTextFindings, AreListFindings, IsAccepted, IsLeastUnopened, AreFindings, WroteFor, IsOpenList}
-use Rattle.cdc_top.specs.Listed.{HadNoPlan, HadListing, IsListCall}
+use Rattle.cdc_top.specs.Listed.{IsListCall}
 use Rattle.cdc_top.specs.Planning.{IsNoPlan}
 use Rattle.cdc_top.proofs.Facts.{apart, list_is_command, is_some_command, no_list_print}
 
@@ -83,9 +80,9 @@ listing_met shown call list.Sink accepted e = record {
 }
 
 -- nothing else was
-list_found : (told : Bool) (call : TopCall) (found : Findings) → IsList call.words → found.usage ≡ false → AreTextFindings found
+list_found : (told : Bool) (call : TopCall) (found : Findings) → IsList call.words → found.usage ≡ false → AreTextFindings found → found.passed ≡ None
     → AreListFindings call.config call.outs found → (found.sink ≡ true → Rose call.run.faults_before call.run.faults_now) → AreFindings told call found
-list_found told call found l no_usage bare met sink = record {
+list_found told call found l no_usage bare unpassed met sink = record {
   usage = λ u. absurd (apart (sym u ∙ no_usage));
   command = λ u w. list_is_command call.words l;
   words = λ none. absurd (is_some_command (command_from call.words) (list_is_command call.words l) none);
@@ -93,29 +90,30 @@ list_found told call found l no_usage bare met sink = record {
   other = inr bare;
   list = λ q. met;
   no_list = inl l;
+  no_pass = unpassed;
   sink = sink;
 }
 
 no_plan_found : (told : Bool) (call : TopCall) (why : ConfigStop) → IsList call.words → IsNoPlan call.config why → AreFindings told call (findings_of_config why)
 no_plan_found told call stop.Unread l is =
-    list_found told call _ l refl (record { unread = refl; oversized = refl; faulty = refl }) (no_plan_met call.config call.outs stop.Unread is) (λ s. absurd (apart (sym s)))
+    list_found told call _ l refl (record { unread = refl; oversized = refl; faulty = refl }) refl (no_plan_met call.config call.outs stop.Unread is) (λ s. absurd (apart (sym s)))
 no_plan_found told call (stop.Refused key) l is =
-    list_found told call _ l refl (record { unread = refl; oversized = refl; faulty = refl }) (no_plan_met call.config call.outs (stop.Refused key) is) (λ s. absurd (apart (sym s)))
+    list_found told call _ l refl (record { unread = refl; oversized = refl; faulty = refl }) refl (no_plan_met call.config call.outs (stop.Refused key) is) (λ s. absurd (apart (sym s)))
 no_plan_found told call stop.Memory l is =
-    list_found told call _ l refl (record { unread = refl; oversized = refl; faulty = refl }) (no_plan_met call.config call.outs stop.Memory is) (λ s. absurd (apart (sym s)))
+    list_found told call _ l refl (record { unread = refl; oversized = refl; faulty = refl }) refl (no_plan_met call.config call.outs stop.Memory is) (λ s. absurd (apart (sym s)))
 
 listing_found : (told shown : Bool) (call : TopCall) (end : ListEnd) → IsList call.words → IsAccepted call.config → IsListEnd call.outs.told shown (listing_of call) end
     → AreFindings told call (findings_of_listing end)
 listing_found told shown call list.Done l accepted e =
-    list_found told call _ l refl (record { unread = refl; oversized = refl; faulty = refl }) (listing_met shown call list.Done accepted e) (λ s. absurd (apart (sym s)))
+    list_found told call _ l refl (record { unread = refl; oversized = refl; faulty = refl }) refl (listing_met shown call list.Done accepted e) (λ s. absurd (apart (sym s)))
 listing_found told shown call (list.Unopened out fault) l accepted e =
-    list_found told call _ l refl (record { unread = refl; oversized = refl; faulty = refl }) (listing_met shown call (list.Unopened out fault) accepted e) (λ s. absurd (apart (sym s)))
+    list_found told call _ l refl (record { unread = refl; oversized = refl; faulty = refl }) refl (listing_met shown call (list.Unopened out fault) accepted e) (λ s. absurd (apart (sym s)))
 listing_found told shown call (list.Disk out) l accepted e =
-    list_found told call _ l refl (record { unread = refl; oversized = refl; faulty = refl }) (listing_met shown call (list.Disk out) accepted e) (λ s. absurd (apart (sym s)))
+    list_found told call _ l refl (record { unread = refl; oversized = refl; faulty = refl }) refl (listing_met shown call (list.Disk out) accepted e) (λ s. absurd (apart (sym s)))
 listing_found told shown call list.Memory l accepted e =
-    list_found told call _ l refl (record { unread = refl; oversized = refl; faulty = refl }) (listing_met shown call list.Memory accepted e) (λ s. absurd (apart (sym s)))
+    list_found told call _ l refl (record { unread = refl; oversized = refl; faulty = refl }) refl (listing_met shown call list.Memory accepted e) (λ s. absurd (apart (sym s)))
 listing_found told shown call list.Sink l accepted e =
-    list_found told call _ l refl (record { unread = refl; oversized = refl; faulty = refl }) (listing_met shown call list.Sink accepted e) (λ s. e.0)
+    list_found told call _ l refl (record { unread = refl; oversized = refl; faulty = refl }) refl (listing_met shown call list.Sink accepted e) (λ s. e.0)
 
 pub list_findings : (told shown : Bool) (call : TopCall) (found : Findings) → IsList call.words → IsListCall call.outs.told shown call.config (listing_of call) found
     → AreFindings told call found

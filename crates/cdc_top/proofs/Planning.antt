@@ -5,10 +5,9 @@ use Rattle.cdc_config.specs.declared.command.ConfigKey.{ConfigKey}
 use Rattle.cdc_config.specs.declared.command.Refusal.{Refusal}
 use Rattle.cdc_config.specs.declared.command.Refusal.TheVariants as refusal
 use Rattle.cdc_config.specs.Plan.{refused_key}
-use Rattle.cdc_outside.specs.Count.{Rose}
 use Rattle.cdc_top.specs.declared.config.ConfigStop.{ConfigStop}
 use Rattle.cdc_top.specs.declared.config.ConfigStop.TheVariants as stop
-use Rattle.cdc_top.specs.Call.{ConfigRun, IsAccepted}
+use Rattle.cdc_top.specs.Call.{ConfigRun}
 use Rattle.cdc_top.specs.Planning.{StopsFor, IsPlanOrStop, IsPlanRead}
 
 -- a text that is refused

@@ -77,6 +77,15 @@ no_other (TooLarge number bytes) = record { read = refl; accepted = refl; opened
 no_other (Fault node place fault) = record { read = refl; accepted = refl; opened = refl; lasted = refl }
 no_other Sink = record { read = refl; accepted = refl; opened = refl; lasted = refl }
 
+-- no print's end says anything of a pass
+no_pass : (end : PrintEnd) → (findings_of_print end).passed ≡ None
+no_pass Done = refl
+no_pass (Read node) = refl
+no_pass Memory = refl
+no_pass (TooLarge number bytes) = refl
+no_pass (Fault node place fault) = refl
+no_pass Sink = refl
+
 -- what `print` met with
 pub print_findings : (told shown : Bool) (call : TopCall) (end : PrintEnd) → IsPrint call.words → IsPrintEnd told shown call.run end → ComesBehindReading told call.run end
     → AreFindings told call (findings_of_print end)
@@ -88,6 +97,7 @@ print_findings told shown call end p e o = record {
   other = inl p;
   list = λ l. absurd (no_list_print call.words l p);
   no_list = inr (no_other end);
+  no_pass = no_pass end;
   sink = sink_rose told shown call.run end e;
 }
 

@@ -5,7 +5,7 @@ use Rattle.cdc_config.specs.declared.command.Command.TheVariants as command
 use Rattle.cdc_config.specs.Words.{command_from}
 use Rattle.cdc_outside.specs.Count.{Rose}
 use Rattle.cdc_top.specs.declared.findings.Findings.{Findings}
-use Rattle.cdc_top.specs.Words.{is_command_built, is_command, IsList, IsPrint, help_text, version_text}
+use Rattle.cdc_top.specs.Words.{is_command_built, is_command, IsPrint, help_text, version_text}
 use Rattle.cdc_top.specs.Order.{usage_met, wanting_met, nothing_met, sink_met, answer_of}
 use Rattle.cdc_top.specs.Texts.{IsTextWritten}
 use Rattle.cdc_top.specs.Call.{TopCall, AreTextFindings, AreOtherFindings, AreFindings, WroteFor, IsText}
@@ -21,6 +21,7 @@ usage_findings told call no_command = record {
   other = inr record { unread = refl; oversized = refl; faulty = refl };
   list = λ l. absurd (apart (sym (list_is_command call.words l) ∙ no_command));
   no_list = inr record { read = refl; accepted = refl; opened = refl; lasted = refl };
+  no_pass = refl;
   sink = λ s. absurd (apart (sym s));
 }
 
@@ -42,6 +43,7 @@ wanting_findings told call some = record {
   other = inr record { unread = refl; oversized = refl; faulty = refl };
   list = λ l. record { unread = λ u. absurd (apart (sym u)); refused = tt; unopened = tt; failed = tt; all = λ h. absurd (apart h.memory) };
   no_list = inr record { read = refl; accepted = refl; opened = refl; lasted = refl };
+  no_pass = refl;
   sink = λ s. absurd (apart (sym s));
 }
 
@@ -55,9 +57,9 @@ text_command words (inl h) = ap is_command_built h
 text_command words (inr v) = ap is_command_built v
 
 -- a text was written, or the sink failed
-text_found : (told : Bool) (call : TopCall) (found : Findings) → IsText call.words → found.usage ≡ false → AreTextFindings found → AreOtherFindings found
+text_found : (told : Bool) (call : TopCall) (found : Findings) → IsText call.words → found.usage ≡ false → AreTextFindings found → AreOtherFindings found → found.passed ≡ None
     → (found.sink ≡ true → Rose call.run.faults_before call.run.faults_now) → AreFindings told call found
-text_found told call found text no_usage bare other sink = record {
+text_found told call found text no_usage bare other unpassed sink = record {
   usage = λ u. absurd (apart (sym u ∙ no_usage));
   command = λ u w. text_command call.words text;
   words = λ none. absurd (is_some_command (command_from call.words) (text_command call.words text) none);
@@ -65,6 +67,7 @@ text_found told call found text no_usage bare other sink = record {
   other = inr bare;
   list = λ l. absurd (no_list_text call.words text l);
   no_list = inr other;
+  no_pass = unpassed;
   sink = sink;
 }
 
@@ -73,11 +76,11 @@ pub text_findings : (told shown : Bool) (call : TopCall) (text : List ℕ) (foun
 text_findings told shown call text found asked (inl done) =
     subst (AreFindings told call) (sym done.0)
     (text_found told call nothing_met asked refl (record { unread = refl; oversized = refl; faulty = refl })
-    (record { read = refl; accepted = refl; opened = refl; lasted = refl }) (λ s. absurd (apart (sym s))))
+    (record { read = refl; accepted = refl; opened = refl; lasted = refl }) refl (λ s. absurd (apart (sym s))))
 text_findings told shown call text found asked (inr failed) =
     subst (AreFindings told call) (sym failed.0)
     (text_found told call sink_met asked refl (record { unread = refl; oversized = refl; faulty = refl })
-    (record { read = refl; accepted = refl; opened = refl; lasted = refl }) (λ s. failed.1))
+    (record { read = refl; accepted = refl; opened = refl; lasted = refl }) refl (λ s. failed.1))
 
 -- what was written of `--help`
 pub help_wrote : (told shown : Bool) (call : TopCall) (found : Findings) → command_from call.words ≡ Some command.Help

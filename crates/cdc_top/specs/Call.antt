@@ -1,5 +1,5 @@
 -- What a call answers, and why.
-use Rattle.std.specs.Prelude.{◌≡◌, ℕ, ◌⊎◌, ◌++◌, Bool, true, false, IsTrue, List, map, Option, Some, None, IfSome, MatchOption}
+use Rattle.std.specs.Prelude.{◌≡◌, ℕ, ◌⊎◌, ◌++◌, Bool, true, false, IsTrue, List, map, Some, None, IfSome, MatchOption}
 use Rattle.cdc_base.specs.declared.place.Place.{Place}
 use Rattle.cdc_outside.specs.Count.{Rose}
 use Rattle.cdc_outside.specs.Disk.{Image}
@@ -17,9 +17,9 @@ use Rattle.cdc_model.specs.declared.fault.NodeFault.{NodeFault}
 use Rattle.cdc_model.specs.declared.node_log.NodeLog.{NodeLog}
 use Rattle.cdc_model.specs.Records.{Transaction}
 use Rattle.cdc_model.specs.Output.{beyond_the_file}
-use Rattle.cdc_print.specs.Outcome.{PrintRun, run_seen, AreNodeLogs, AreClean, IsLeastFault, NothingBeyond, IsBeyond, GaveFile, GaveFront, GaveNothing, GaveOrFailed, IsLeastFailed, WereAllRead, NoneFailedIn}
+use Rattle.cdc_print.specs.Outcome.{PrintRun, AreNodeLogs, AreClean, IsLeastFault, NothingBeyond, IsBeyond, GaveFile, GaveFront, GaveNothing, GaveOrFailed, IsLeastFailed, WereAllRead, NoneFailedIn}
 use Rattle.cdc_top.specs.declared.answer.Answer.{Answer}
-use Rattle.cdc_top.specs.declared.answer.Answer.TheVariants.{Done, Usage, Config, Node, ReadConfig, Read, Disk, TooLarge, Unopened, Memory, Sink}
+use Rattle.cdc_top.specs.declared.answer.Answer.TheVariants.{Done, Usage, Config, Node, ReadConfig, Read, Disk, TooLarge, Unopened, TaskDisk, TaskCell, TaskNodes, TaskRotation, Behind, Differs, OtherKey, Memory, Sink}
 use Rattle.cdc_top.specs.declared.findings.Findings.{Findings}
 use Rattle.cdc_top.specs.Words.{is_command, IsList, IsPrint, help_text, version_text}
 
@@ -112,6 +112,13 @@ WroteFor told call (Read node) = GaveNothing call.run
 WroteFor told call (Disk out) = GaveNothing call.run
 WroteFor told call (Unopened out fault) = GaveNothing call.run
 WroteFor told call (TooLarge number bytes) = IsTrue told → GaveOrFailed call.run
+WroteFor told call TaskDisk = GaveNothing call.run
+WroteFor told call TaskCell = GaveNothing call.run
+WroteFor told call (TaskNodes kept given) = GaveNothing call.run
+WroteFor told call (TaskRotation kept given) = GaveNothing call.run
+WroteFor told call (Behind node kept given) = GaveNothing call.run
+WroteFor told call (Differs out kept given) = GaveNothing call.run
+WroteFor told call (OtherKey out kept given) = GaveNothing call.run
 WroteFor told call Memory = GaveNothing call.run
 WroteFor told call Sink = WroteFront told call
 
@@ -184,8 +191,8 @@ pub record AreOtherFindings (found : Findings) : Type 0 where
   pub opened : found.unopened ≡ None
   pub lasted : found.failed ≡ None
 
--- what a call met with: its words are no command of it; with `print` and with `list` what these met with; else no more than want of memory or a
--- sink that failed
+-- what a call met with whose words aren't `run`: its words are no command of it; with `print` and with `list` what these met with; else no more
+-- than want of memory or a sink that failed
 pub record AreFindings (told : Bool) (call : TopCall) (found : Findings) : Type 0 where
   pub usage : found.usage ≡ true → is_command call.words ≡ false
   pub command : found.usage ≡ false → found.wanting ≡ false → is_command call.words ≡ true
@@ -194,6 +201,7 @@ pub record AreFindings (told : Bool) (call : TopCall) (found : Findings) : Type 
   pub other : IsPrint call.words ⊎ AreTextFindings found
   pub list : IsList call.words → AreListFindings call.config call.outs found
   pub no_list : IsList call.words ⊎ AreOtherFindings found
+  pub no_pass : found.passed ≡ None
   pub sink : found.sink ≡ true → Rose call.run.faults_before call.run.faults_now
 
 -- ---- the promises, status by status

@@ -1,8 +1,10 @@
 pub mod Answers
 pub mod Call
 pub mod FaultText
+pub mod KeptText
 pub mod Listed
 pub mod Order
 pub mod Planning
+pub mod Ran
 pub mod Texts
 pub mod Words

@@ -1,5 +1,5 @@
 -- The commands that this call has, and their texts.
-use Rattle.std.specs.Prelude.{◌≡◌, ℕ, Bool, true, false, List, ◌++◌, codes, Option, Some, None}
+use Rattle.std.specs.Prelude.{◌≡◌, ℕ, Bool, true, false, not, List, ◌++◌, codes, Option, Some, None}
 use Rattle.cdc_config.specs.declared.command.Command.{Command}
 use Rattle.cdc_config.specs.declared.command.Command.TheVariants as command
 use Rattle.cdc_config.specs.Words.{command_from}
@@ -8,9 +8,10 @@ use Rattle.cdc_config.specs.Words.{command_from}
 unfoldable pub help_text : List ℕ
 help_text =
     codes "cdc print FILE ..: print the settled transactions of 1 to 256 nodes, one file a node\n"
+    ++ (codes "cdc run CONFIG [--order N]: publish what is settled to each output\n"
     ++ (codes "cdc list CONFIG: print what each output has published\n"
     ++ (codes "cdc serve CONFIG [--connections N]: serve each output's published files at its address\n"
-    ++ (codes "cdc --help: print the commands\n" ++ codes "cdc --version: print the name and the version\n")))
+    ++ (codes "cdc --help: print the commands\n" ++ codes "cdc --version: print the name and the version\n"))))
 
 -- what `--version` prints
 unfoldable pub version_text : List ℕ
@@ -19,6 +20,7 @@ version_text = codes "cdc 0.1.0\n"
 -- a command that this call has
 abbrev pub is_built : Command → Bool
 is_built (command.Print files) = true
+is_built (command.Run config order threads) = not threads
 is_built (command.List config) = true
 is_built command.Help = true
 is_built command.Version = true
@@ -40,3 +42,11 @@ IsList words = (config : List ℕ) × (command_from words ≡ Some (command.List
 -- the words are `print` and files
 abbrev pub IsPrint : List (List ℕ) → Type 0
 IsPrint words = (files : List (List ℕ)) × (command_from words ≡ Some (command.Print files))
+
+-- the words are `run` and a configuration, on one thread
+abbrev pub IsRunCommand : List (List ℕ) → Type 0
+IsRunCommand words = (config : List ℕ) × (order : Option ℕ) × (command_from words ≡ Some (command.Run config order false))
+
+-- the words are something else
+abbrev pub IsNoRun : List (List ℕ) → Type 0
+IsNoRun words = IsRunCommand words → ⊥

@@ -3,10 +3,10 @@
 ghost use Rattle.std.specs.Prelude.{◌≡◌};
 ghost use Rattle.cdc_top.specs.Answers as answers;
 
-use cdc_base::Place;
+use cdc_base::{Key, Place};
 use cdc_config::ConfigKey;
 use cdc_dumper::OpenFault;
-use cdc_model::NodeFault;
+use cdc_model::{Layout, NodeFault};
 
 /// The answer of a call. Nodes, outs and transactions are counted from 1.
 #[derive(Clone, Copy, Debug, PartialEq, Eq)]
@@ -45,6 +45,38 @@ pub enum Answer {
         out: u32,
         fault: OpenFault,
     },
+    /// The disk of the task failed: status 5.
+    TaskDisk,
+    /// The task's record is refused: status 7.
+    TaskCell,
+    /// The task was kept for another number of nodes: status 7.
+    TaskNodes {
+        kept: u32,
+        given: u32,
+    },
+    /// The task was kept for another rotation size: status 7.
+    TaskRotation {
+        kept: u64,
+        given: u64,
+    },
+    /// The log of this node ends before the place from which it is to be read on: status 7.
+    Behind {
+        node: u32,
+        kept: Place,
+        given: Place,
+    },
+    /// This out stands elsewhere than where the next transaction begins: status 7.
+    Differs {
+        out: u32,
+        kept: Layout,
+        given: Layout,
+    },
+    /// The last transaction of this out has another key than the one of its number: status 7.
+    OtherKey {
+        out: u32,
+        kept: Key,
+        given: Key,
+    },
     /// There was no memory: status 8.
     Memory,
     /// The sink failed: status 9.
@@ -76,6 +108,13 @@ pub fn status(answer: &Answer) -> u8
         Answer::Disk { .. } => 5,
         Answer::TooLarge { .. } => 6,
         Answer::Unopened { out: _, fault } => unopened_status(fault),
+        Answer::TaskDisk => 5,
+        Answer::TaskCell => 7,
+        Answer::TaskNodes { .. } => 7,
+        Answer::TaskRotation { .. } => 7,
+        Answer::Behind { .. } => 7,
+        Answer::Differs { .. } => 7,
+        Answer::OtherKey { .. } => 7,
         Answer::Memory => 8,
         Answer::Sink => 9,
     }

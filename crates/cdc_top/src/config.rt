@@ -1,6 +1,8 @@
 //! The plan of a call, read from its configuration.
 
-ghost use Rattle.std.specs.Prelude.{◌≡◌, ◌≤◌, Err, length};
+ghost use Rattle.std.specs.Prelude.{◌≡◌, ◌≤◌, Err, IsTrue, IfOk, length};
+ghost use Rattle.cdc_config.specs.Plan.{IsPlanOf};
+ghost use Rattle.cdc_outside.specs.Source.{file_of};
 ghost use Rattle.cdc_top.specs.Call.{config_seen};
 ghost use Rattle.cdc_top.specs.Planning.{IsPlanOrStop, IsPlanRead, StopsFor};
 
@@ -33,7 +35,8 @@ fn stop_of(refusal: Refusal) -> ConfigStop
 
 /// The plan of a text.
 fn plan_in(alloc: Global, text: &[u8]) -> Result<Plan, ConfigStop>
-    ensures { IsPlanOrStop result text.now }
+    ensures answer { IsPlanOrStop result text.now }
+    ensures plan { IfOk result (IsPlanOf text.now) }
 {
     match plan_of(alloc, text) {
         Ok(plan) => Ok(plan),
@@ -45,6 +48,7 @@ fn plan_in(alloc: Global, text: &[u8]) -> Result<Plan, ConfigStop>
 pub fn read_plan<C: Source>(alloc: Global, config: &mut C) -> Result<Plan, ConfigStop>
     requires { length (C.sizes config.old) ≡ 1 }
     ensures read { IsPlanRead result (config_seen C.tells C.held C.faults config.old config.new) }
+    ensures plan { IsTrue C.tells → IfOk result (IsPlanOf (file_of (C.held config.old) 1)) }
     ensures later { C.faults config.old ≤ C.faults config.new }
     ensures held { C.held config.new ≡ C.held config.old }
 {

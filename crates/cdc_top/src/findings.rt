@@ -1,7 +1,8 @@
 //! What a call met with, and the order of the answers to it.
 
 ghost use Rattle.std.specs.Prelude.{◌≡◌};
-ghost use Rattle.cdc_top.specs.Order.{answer_of, nothing_met, usage_met, wanting_met, sink_met, findings_of_print, findings_of_listing, findings_of_config};
+ghost use Rattle.cdc_top.specs.Order.{answer_of, nothing_met, usage_met, wanting_met, sink_met, findings_of_print, findings_of_listing, findings_of_config, findings_of_lines, pass_answer, task_answer};
+ghost use Rattle.cdc_top.specs.Order as order;
 
 use crate::answer::Answer;
 use crate::config::ConfigStop;
@@ -10,7 +11,9 @@ use cdc_config::ConfigKey;
 use cdc_dumper::OpenFault;
 use cdc_list::ListEnd;
 use cdc_model::NodeFault;
+use cdc_opening::Outcome;
 use cdc_print::PrintEnd;
+use cdc_task::TaskFault;
 
 /// A transaction that an output has no room for: its number, and the bytes of its print.
 #[derive(Clone, Copy, Debug, PartialEq, Eq)]
@@ -43,6 +46,8 @@ pub struct Findings {
     pub config_unread: bool,
     /// The first key for which the configuration is refused.
     pub config_refused: Option<ConfigKey>,
+    /// How a pass ended before all was published.
+    pub passed: Option<Outcome>,
     /// The least out that can't be opened.
     pub unopened: Option<UnopenedOut>,
     /// The out whose disk failed when all were opened.
@@ -68,6 +73,7 @@ impl Findings {
             usage: false,
             config_unread: false,
             config_refused: None,
+            passed: None,
             unopened: None,
             failed: None,
             unread: None,
@@ -166,6 +172,105 @@ pub fn findings_of_stop(stop: &ConfigStop) -> Findings
     found
 }
 
+/// What a pass's end tells; of one that published all no more than a transaction that is too large, or a node's fault.
+pub fn findings_of_pass(outcome: &Outcome) -> Findings
+    ensures { result ≡ order.findings_of_pass outcome.now }
+{
+    let mut found = Findings::none();
+    match outcome {
+        Outcome::Done => {}
+        Outcome::TooLarge { number, bytes } => {
+            found.oversized = Some(Oversized {
+                number: *number,
+                bytes: *bytes,
+            });
+        }
+        Outcome::Node { node, place, fault } => {
+            found.faulty = Some(Faulty {
+                node: *node,
+                place: *place,
+                fault: *fault,
+            });
+        }
+        Outcome::Disk { .. }
+        | Outcome::TaskDisk
+        | Outcome::Read { .. }
+        | Outcome::Memory
+        | Outcome::Open { .. }
+        | Outcome::Task(_)
+        | Outcome::Behind { .. }
+        | Outcome::Differs { .. }
+        | Outcome::Key { .. } => found.passed = Some(*outcome),
+    }
+    found
+}
+
+/// What a pass that published all tells, and the end of the lines behind it.
+pub fn findings_of_run(outcome: &Outcome, end: &ListEnd) -> Findings
+    ensures { result ≡ findings_of_lines outcome.now end.now }
+{
+    let passed = findings_of_pass(outcome);
+    let mut found = findings_of_list(end);
+    found.oversized = passed.oversized;
+    found.faulty = passed.faulty;
+    found
+}
+
+/// The answer to a task that can't be opened.
+fn answer_of_task(fault: TaskFault) -> Answer
+    ensures { result ≡ task_answer fault }
+{
+    match fault {
+        TaskFault::DiskFault => Answer::TaskDisk,
+        TaskFault::BadCell(_) => Answer::TaskCell,
+        TaskFault::NodeCount { kept, given } => Answer::TaskNodes { kept, given },
+        TaskFault::Rotation { kept, given } => Answer::TaskRotation { kept, given },
+        TaskFault::Memory => Answer::Memory,
+    }
+}
+
+/// The answer to how a pass ended.
+fn answer_of_pass(outcome: &Outcome) -> Answer
+    ensures { result ≡ pass_answer outcome.now }
+{
+    match outcome {
+        Outcome::Done => Answer::Done,
+        Outcome::Disk { out } => Answer::Disk { out: *out },
+        Outcome::TaskDisk => Answer::TaskDisk,
+        Outcome::Read { node } => Answer::Read { node: *node },
+        Outcome::Memory => Answer::Memory,
+        Outcome::TooLarge { number, bytes } => Answer::TooLarge {
+            number: *number,
+            bytes: *bytes,
+        },
+        Outcome::Node { node, place, fault } => Answer::Node {
+            node: *node,
+            place: *place,
+            fault: *fault,
+        },
+        Outcome::Open { out, fault } => Answer::Unopened {
+            out: *out,
+            fault: *fault,
+        },
+        Outcome::Task(fault) => answer_of_task(*fault),
+        Outcome::Behind { node, kept, given } => Answer::Behind {
+            node: *node,
+            kept: *kept,
+            given: *given,
+        },
+        Outcome::Differs { out, kept, given } => Answer::Differs {
+            out: *out,
+            kept: *kept,
+            given: *given,
+        },
+        Outcome::Key { out, kept, given } => Answer::OtherKey {
+            out: *out,
+            kept: *kept,
+            given: *given,
+        },
+    }
+}
+
 /// The answer: that of the first thing met with, in the order of the fields; `Done` where there is none.
 pub fn answer_of(found: &Findings) -> Answer
     ensures { result ≡ answer_of found.now }
@@ -178,6 +283,9 @@ pub fn answer_of(found: &Findings) -> Answer
     }
     if let Some(key) = found.config_refused {
         return Answer::Config { key };
+    }
+    if let Some(outcome) = &found.passed {
+        return answer_of_pass(outcome);
     }
     if let Some(UnopenedOut { out, fault }) = found.unopened {
         return Answer::Unopened { out, fault };

@@ -3,9 +3,11 @@
 ghost use Rattle.std.specs.Prelude.{◌≡◌, ◌+◌, ◌*◌, ◌≤◌, ◌++◌, length, decimal};
 ghost use Rattle.hex.specs.Hex.{encode_lower};
 ghost use Rattle.cdc_top.specs.FaultText.{shown_place, shown_xid};
+ghost use Rattle.cdc_top.specs.KeptText.{shown_layout, shown_key};
 
 use arrayvec::ArrayVec;
-use cdc_base::{Gtrid, Place, Xid};
+use cdc_base::{Gtrid, Key, Place, Xid};
+use cdc_model::Layout;
 
 /// The most bytes of a line. The longest, of a branch with two ids of 64 bytes, has 336.
 pub const LINE_MAX: usize = 400;
@@ -67,4 +69,41 @@ pub fn put_place(line: &mut Line, place: Place)
     put_number(line, u64::from(place.file));
     put(line, b":");
     put_number(line, place.at);
+}
+
+/// Puts where an out stands.
+pub fn put_layout(line: &mut Line, at: &Layout)
+    requires { length line.old.items + 41 ≤ LINE_MAX }
+    ensures items { line.new.items ≡ line.old.items ++ shown_layout at.now }
+    ensures len { length line.new.items ≤ length line.old.items + 41 }
+{
+    put_number(line, at.file);
+    put(line, b":");
+    put_number(line, at.length);
+}
+
+/// Puts a key.
+pub fn put_key(line: &mut Line, key: &Key)
+    requires { length line.old.items + 151 ≤ LINE_MAX }
+    ensures items { line.new.items ≡ line.old.items ++ shown_key key.now }
+    ensures len { length line.new.items ≤ length line.old.items + 151 }
+{
+    match key {
+        Key::Shared { timestamp, gtrid } => {
+            put_number(line, *timestamp);
+            put(line, b",0,");
+            put_id(line, gtrid);
+        }
+        Key::Plain {
+            timestamp,
+            node,
+            entry,
+        } => {
+            put_number(line, *timestamp);
+            put(line, b",1,");
+            put_number(line, u64::from(*node));
+            put(line, b",");
+            put_number(line, *entry);
+        }
+    }
 }

@@ -7,7 +7,10 @@ ghost use Rattle.cdc_top.specs.declared.answer.Answer.TheVariants.{Memory as NoM
 
 use crate::answer::{Answer, status};
 use crate::fault_line::put_fault;
-use crate::line::{Line, put, put_number, put_place};
+use crate::kept_lines::{
+    behind_line, differs_line, other_key_line, task_nodes_line, task_rotation_line,
+};
+use crate::line::{LINE_MAX, Line, put, put_number, put_place};
 use cdc_base::Place;
 use cdc_config::ConfigKey;
 use cdc_dumper::OpenFault;
@@ -124,6 +127,42 @@ fn node_line(node: u32, place: Place, fault: &NodeFault) -> Line
     line
 }
 
+/// A line that names nothing.
+fn plain_line(text: &[u8]) -> Line
+    requires { length text.now ≤ LINE_MAX }
+    ensures { result.items ≡ text.now }
+{
+    let mut line = Line::new();
+    put(&mut line, text);
+    line
+}
+
+/// The line of an answer; empty for `Done`.
+fn line_of(answer: &Answer) -> Line
+    ensures { result.items ≡ answers.line_of answer.now }
+{
+    match answer {
+        Answer::Done => Line::new(),
+        Answer::Usage => plain_line(b"cdc: usage\n"),
+        Answer::Config { key } => config_line(*key),
+        Answer::Node { node, place, fault } => node_line(*node, *place, fault),
+        Answer::ReadConfig => plain_line(b"cdc: read config\n"),
+        Answer::Read { node } => read_line(*node),
+        Answer::Disk { out } => disk_line(*out),
+        Answer::TooLarge { number, bytes } => large_line(*number, *bytes),
+        Answer::Unopened { out, fault } => unopened_line(*out, fault),
+        Answer::TaskDisk => plain_line(b"cdc: disk task\n"),
+        Answer::TaskCell => plain_line(b"cdc: kept task bad cell\n"),
+        Answer::TaskNodes { kept, given } => task_nodes_line(*kept, *given),
+        Answer::TaskRotation { kept, given } => task_rotation_line(*kept, *given),
+        Answer::Behind { node, kept, given } => behind_line(*node, *kept, *given),
+        Answer::Differs { out, kept, given } => differs_line(*out, kept, given),
+        Answer::OtherKey { out, kept, given } => other_key_line(*out, kept, given),
+        Answer::Memory => plain_line(b"cdc: memory\n"),
+        Answer::Sink => plain_line(b"cdc: sink\n"),
+    }
+}
+
 /// Writes the line of an answer, which takes no memory; nothing for `Done`. A line that can't be written is let
 /// be: the count of `err` tells.
 pub fn report<K: Sink>(answer: &Answer, err: &mut K)
@@ -132,18 +171,7 @@ pub fn report<K: Sink>(answer: &Answer, err: &mut K)
 {
     match answer {
         Answer::Done => {}
-        Answer::Usage => say(err, b"cdc: usage\n"),
-        Answer::Config { key } => say(err, config_line(*key).as_slice()),
-        Answer::Node { node, place, fault } => {
-            say(err, node_line(*node, *place, fault).as_slice())
-        }
-        Answer::ReadConfig => say(err, b"cdc: read config\n"),
-        Answer::Disk { out } => say(err, disk_line(*out).as_slice()),
-        Answer::Unopened { out, fault } => say(err, unopened_line(*out, fault).as_slice()),
-        Answer::Read { node } => say(err, read_line(*node).as_slice()),
-        Answer::TooLarge { number, bytes } => say(err, large_line(*number, *bytes).as_slice()),
-        Answer::Memory => say(err, b"cdc: memory\n"),
-        Answer::Sink => say(err, b"cdc: sink\n"),
+        _ => say(err, line_of(answer).as_slice()),
     }
 }
 

@@ -13,6 +13,7 @@ pub fn help() -> &'static [u8]
     ensures { result.now ≡ help_text }
 {
     b"cdc print FILE ..: print the settled transactions of 1 to 256 nodes, one file a node\n\
+    cdc run CONFIG [--order N]: publish what is settled to each output\n\
     cdc list CONFIG: print what each output has published\n\
     cdc serve CONFIG [--connections N]: serve each output's published files at its address\n\
     cdc --help: print the commands\n\

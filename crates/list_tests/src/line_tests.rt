@@ -1,6 +1,7 @@
 //! The lines of outs that were worked out by hand.
 
-use crate::shelves::{CLOSED_FILE, FIRST_DROPPED, ONE_FILE, TWO_FILES, list_all, shelf};
+use crate::shelves::{CLOSED_FILE, FIRST_DROPPED, ONE_FILE, TWO_FILES, list_all, list_own, shelf};
+use cdc_dumper::OpenFault;
 use cdc_list::{ListEnd, out_line};
 use cdc_records::Front;
 use std::alloc::Global;
@@ -70,6 +71,36 @@ fn outs_are_listed_in_order(rt: HostRuntime) -> Result<(), Fail> {
         out 2 - 0 0\n3 binlog.000002 241\nout 3 binlog.000002 241 3\n",
         )
     );
+    Ok(())
+}
+
+#[test]
+fn own_lines_stand_alone(rt: HostRuntime) -> Result<(), Fail> {
+    let alloc = rt.alloc();
+    let mut outs = Vec::new(alloc);
+    outs.push(shelf(alloc, &TWO_FILES, &[399, 241])?)?;
+    outs.push(shelf(alloc, &[], &[])?)?;
+    outs.push(shelf(alloc, &ONE_FILE, &[241])?)?;
+    let seen = list_own(alloc, &mut outs, &[])?;
+    let text = b"out 1 binlog.000002 241 3\nout 2 - 0 0\nout 3 binlog.000001 241 1\n".as_slice();
+    assert!(rt; seen.is(ListEnd::Done, text));
+    Ok(())
+}
+
+#[test]
+fn own_lines_name_a_refused_out_and_a_failed_sink(rt: HostRuntime) -> Result<(), Fail> {
+    let alloc = rt.alloc();
+    let mut outs = Vec::new(alloc);
+    outs.push(shelf(alloc, &ONE_FILE, &[241])?)?;
+    let seen = list_own(alloc, &mut outs, &[1])?;
+    assert!(rt; seen.end == ListEnd::Sink);
+    outs.push(shelf(alloc, &ONE_FILE, &[240])?)?;
+    let seen = list_own(alloc, &mut outs, &[])?;
+    let fault = OpenFault::BadFront {
+        kept: 241,
+        found: 240,
+    };
+    assert!(rt; seen.is(ListEnd::Unopened { out: 2, fault }, b""));
     Ok(())
 }
 

@@ -1,6 +1,6 @@
 //! Outputs, as disks in memory, and what a listing of them writes.
 
-use cdc_list::{ListEnd, list};
+use cdc_list::{ListEnd, list, list_fronts};
 use cdc_memory::{MemDisk, MemSink};
 use cdc_outside::{DiskFile, write_through};
 use std::alloc::Global;
@@ -65,5 +65,15 @@ pub fn list_all(alloc: Global, outs: &mut Vec<MemDisk>, fails: &[u64]) -> Result
     }
     let mut out = MemSink::new(alloc, 1_000, fails)?;
     let end = list(alloc, outs, &mut out);
+    Ok(Listed { end, out })
+}
+
+/// Writes the own lines of these outs; the listed writes fail.
+pub fn list_own(alloc: Global, outs: &mut Vec<MemDisk>, fails: &[u64]) -> Result<Listed, Fail> {
+    if outs.len() > 4 {
+        return Err("too many outs")?;
+    }
+    let mut out = MemSink::new(alloc, 1_000, fails)?;
+    let end = list_fronts(alloc, outs, &mut out);
     Ok(Listed { end, out })
 }

@@ -1,8 +1,9 @@
 //! Calls of the top call, and what they gave.
 
-ghost use Rattle.std.specs.Prelude.{◌≡◌, ℕ, List, Some, IsTrue, length, IfOk};
+ghost use Rattle.std.specs.Prelude.{◌≡◌, ℕ, List, [], ◌∷◌, Some, IsTrue, length, IfOk};
 ghost use Rattle.cdc_config.specs.Words.{command_from};
 ghost use Rattle.cdc_memory.specs.Source.{held_files};
+ghost use Rattle.cdc_top.specs.Words.{IsNoRun};
 
 use cdc_base::{Buffer, Memory, Text, TextList};
 use cdc_config::{Command, Refusal, command_of};
@@ -50,7 +51,8 @@ pub fn call_of(alloc: Global, nodes: Vec<MemSource>) -> Call {
 
 /// A source of one file, whose listed calls fail.
 pub fn source_of(alloc: Global, file: &[u8], fails: &[u64]) -> Result<MemSource, Memory>
-    ensures { IfOk result (λ source. length (held_files source) ≡ 1) }
+    ensures one { IfOk result (λ source. length (held_files source) ≡ 1) }
+    ensures files { IfOk result (λ source. held_files source ≡ file.now ∷ []) }
 {
     if file.len() > ROOM {
         return Err(Memory);
@@ -79,19 +81,21 @@ pub fn print_words(alloc: Global, files: usize) -> Result<TextList, Memory> {
     Ok(words)
 }
 
-/// Whether there is a source a file where the words are `print`.
+/// Whether there is a source a file where the words are `print`, and they aren't `run`.
 pub fn fits(alloc: Global, words: &[Text], nodes: usize) -> Result<bool, Memory>
-    ensures { IfOk result (λ fits. IsTrue fits → (files : List (List ℕ)) → command_from words.now ≡ Some (Command.Print files) → nodes ≡ length files) }
+    ensures print { IfOk result (λ fits. IsTrue fits → (files : List (List ℕ)) → command_from words.now ≡ Some (Command.Print files) → nodes ≡ length files) }
+    ensures no_run { IfOk result (λ fits. IsTrue fits → IsNoRun words.now) }
 {
     match command_of(alloc, words) {
         Ok(Command::Print(files)) => Ok(files.len() == nodes),
+        Ok(Command::Run { .. }) => Ok(false),
         Ok(_) => Ok(true),
         Err(Refusal::Usage) => Ok(true),
         Err(_) => Err(Memory),
     }
 }
 
-/// Calls with any words, an empty configuration and no outs. Where they are `print`, there is to be a source a file.
+/// Calls with any words but `run`, an empty configuration and no outs. Where they are `print`, there is to be a source a file.
 pub fn call_with(alloc: Global, words: &[Text], call: Call) -> Result<Seen, Memory> {
     let mut nodes = call.nodes;
     if !fits(alloc, words, nodes.len())? {

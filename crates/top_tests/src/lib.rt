@@ -23,6 +23,10 @@ mod many;
 #[cfg(test)]
 mod node_tests;
 #[cfg(test)]
+mod pass_tests;
+#[cfg(test)]
+mod passing;
+#[cfg(test)]
 mod piece_tests;
 #[cfg(test)]
 mod row_tests;
@@ -30,5 +34,7 @@ mod row_tests;
 mod sink_tests;
 #[cfg(test)]
 mod table;
+#[cfg(test)]
+mod untold_disk;
 #[cfg(test)]
 mod word_tests;

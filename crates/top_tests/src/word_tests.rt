@@ -18,7 +18,7 @@ fn words_that_are_no_command_are_refused(rt: HostRuntime) -> Result<(), Fail> {
         &["--version", "--help"],
         &["-h"],
         &["--HELP"],
-        &["run", "c"],
+        &["run", "c", "--threads"],
         &["list"],
         &["list", "c", "d"],
         &["serve", "c"],
@@ -40,6 +40,7 @@ fn words_that_are_no_command_are_refused(rt: HostRuntime) -> Result<(), Fail> {
 /// What `--help` writes.
 const HELP: &[u8] =
     b"cdc print FILE ..: print the settled transactions of 1 to 256 nodes, one file a node\n\
+    cdc run CONFIG [--order N]: publish what is settled to each output\n\
     cdc list CONFIG: print what each output has published\n\
     cdc serve CONFIG [--connections N]: serve each output's published files at its address\n\
     cdc --help: print the commands\n\

@@ -12,7 +12,7 @@ use Rattle.cdc_top.proofs.TextFindings.{text_findings, help_wrote, version_wrote
 use Rattle.cdc_top.proofs.top_call.do_words.Goals as goal
 
 pub returns-in-Print-clause-findings : goal.returns-in-Print-clause-findings
-returns-in-Print-clause-findings g c =
+returns-in-Print-clause-findings g c other =
     rw c.findings_of.ensures
     (print_findings g.S.Source.tells g.K.Sink.tells
     (call_seen c.args.words.now (run_seen g.S.Source.held g.S.Source.faults g.K.Sink.written g.K.Sink.faults c.args.nodes.now.items c.print_logs.new.nodes.items c.args.out.now c.print_logs.new.out)
@@ -20,7 +20,7 @@ returns-in-Print-clause-findings g c =
     c.print_logs.result (_, c.in-Ok.ensures.command ∙ ap (λ (found : Command). Some found) c.in-Print.is) c.print_logs.ensures.ended c.print_logs.ensures.ordered)
 
 pub returns-in-Print-clause-wrote : goal.returns-in-Print-clause-wrote
-returns-in-Print-clause-wrote g c =
+returns-in-Print-clause-wrote g c other =
     rw c.findings_of.ensures
     (print_wrote g.S.Source.tells g.K.Sink.tells
     (call_seen c.args.words.now (run_seen g.S.Source.held g.S.Source.faults g.K.Sink.written g.K.Sink.faults c.args.nodes.now.items c.print_logs.new.nodes.items c.args.out.now c.print_logs.new.out)
@@ -28,21 +28,21 @@ returns-in-Print-clause-wrote g c =
     c.print_logs.result (_, c.in-Ok.ensures.command ∙ ap (λ (found : Command). Some found) c.in-Print.is) c.print_logs.ensures.ended)
 
 pub returns-in-List-clause-findings : goal.returns-in-List-clause-findings
-returns-in-List-clause-findings g c =
+returns-in-List-clause-findings g c other =
     list_findings g.S.Source.tells g.K.Sink.tells
     (call_seen c.args.words.now (run_seen g.S.Source.held g.S.Source.faults g.K.Sink.written g.K.Sink.faults c.args.nodes.now.items c.args.nodes.now.items c.args.out.now c.list_outs.new.out)
     (config_seen g.C.Source.tells g.C.Source.held g.C.Source.faults c.args.config.now c.list_outs.new.config) (outs_seen g.D.Disk.tells g.D.Disk.seen g.D.Disk.faults c.args.outs.now.items c.list_outs.new.outs.items))
     c.list_outs.result (_, c.in-Ok.ensures.command ∙ ap (λ (found : Command). Some found) c.in-List.is) c.list_outs.ensures.ended
 
 pub returns-in-List-clause-wrote : goal.returns-in-List-clause-wrote
-returns-in-List-clause-wrote g c =
+returns-in-List-clause-wrote g c other =
     list_wrote g.S.Source.tells g.K.Sink.tells
     (call_seen c.args.words.now (run_seen g.S.Source.held g.S.Source.faults g.K.Sink.written g.K.Sink.faults c.args.nodes.now.items c.args.nodes.now.items c.args.out.now c.list_outs.new.out)
     (config_seen g.C.Source.tells g.C.Source.held g.C.Source.faults c.args.config.now c.list_outs.new.config) (outs_seen g.D.Disk.tells g.D.Disk.seen g.D.Disk.faults c.args.outs.now.items c.list_outs.new.outs.items))
     c.list_outs.result (_, c.in-Ok.ensures.command ∙ ap (λ (found : Command). Some found) c.in-List.is) c.list_outs.ensures.ended
 
 pub returns-in-Help-clause-findings : goal.returns-in-Help-clause-findings
-returns-in-Help-clause-findings g c =
+returns-in-Help-clause-findings g c other =
     text_findings g.S.Source.tells g.K.Sink.tells
     (call_seen c.args.words.now (run_seen g.S.Source.held g.S.Source.faults g.K.Sink.written g.K.Sink.faults c.args.nodes.now.items c.args.nodes.now.items c.args.out.now c.write_text.new.out)
     (config_seen g.C.Source.tells g.C.Source.held g.C.Source.faults c.args.config.now c.args.config.now) (outs_seen g.D.Disk.tells g.D.Disk.seen g.D.Disk.faults c.args.outs.now.items c.args.outs.now.items))
@@ -51,7 +51,7 @@ returns-in-Help-clause-findings g c =
     (rw c.help.ensures at c.write_text.ensures.written)
 
 pub returns-in-Help-clause-wrote : goal.returns-in-Help-clause-wrote
-returns-in-Help-clause-wrote g c =
+returns-in-Help-clause-wrote g c other =
     help_wrote g.S.Source.tells g.K.Sink.tells
     (call_seen c.args.words.now (run_seen g.S.Source.held g.S.Source.faults g.K.Sink.written g.K.Sink.faults c.args.nodes.now.items c.args.nodes.now.items c.args.out.now c.write_text.new.out)
     (config_seen g.C.Source.tells g.C.Source.held g.C.Source.faults c.args.config.now c.args.config.now) (outs_seen g.D.Disk.tells g.D.Disk.seen g.D.Disk.faults c.args.outs.now.items c.args.outs.now.items))
@@ -60,7 +60,7 @@ returns-in-Help-clause-wrote g c =
     (rw c.help.ensures at c.write_text.ensures.written)
 
 pub returns-in-Version-clause-findings : goal.returns-in-Version-clause-findings
-returns-in-Version-clause-findings g c =
+returns-in-Version-clause-findings g c other =
     text_findings g.S.Source.tells g.K.Sink.tells
     (call_seen c.args.words.now (run_seen g.S.Source.held g.S.Source.faults g.K.Sink.written g.K.Sink.faults c.args.nodes.now.items c.args.nodes.now.items c.args.out.now c.write_text-in-Version.new.out)
     (config_seen g.C.Source.tells g.C.Source.held g.C.Source.faults c.args.config.now c.args.config.now) (outs_seen g.D.Disk.tells g.D.Disk.seen g.D.Disk.faults c.args.outs.now.items c.args.outs.now.items))
@@ -69,7 +69,7 @@ returns-in-Version-clause-findings g c =
     (rw c.version.ensures at c.write_text-in-Version.ensures.written)
 
 pub returns-in-Version-clause-wrote : goal.returns-in-Version-clause-wrote
-returns-in-Version-clause-wrote g c =
+returns-in-Version-clause-wrote g c other =
     version_wrote g.S.Source.tells g.K.Sink.tells
     (call_seen c.args.words.now (run_seen g.S.Source.held g.S.Source.faults g.K.Sink.written g.K.Sink.faults c.args.nodes.now.items c.args.nodes.now.items c.args.out.now c.write_text-in-Version.new.out)
     (config_seen g.C.Source.tells g.C.Source.held g.C.Source.faults c.args.config.now c.args.config.now) (outs_seen g.D.Disk.tells g.D.Disk.seen g.D.Disk.faults c.args.outs.now.items c.args.outs.now.items))
@@ -78,49 +78,57 @@ returns-in-Version-clause-wrote g c =
     (rw c.version.ensures at c.write_text-in-Version.ensures.written)
 
 pub returns-in-Err-Memory-clause-outs_later : goal.returns-in-Err-Memory-clause-outs_later
-returns-in-Err-Memory-clause-outs_later g c = later_yet g.D.Disk.faults c.args.outs.now.items
+returns-in-Err-Memory-clause-outs_later g c other = later_yet g.D.Disk.faults c.args.outs.now.items
 
 pub returns-in-Err-Memory-clause-outs_alone : goal.returns-in-Err-Memory-clause-outs_alone
-returns-in-Err-Memory-clause-outs_alone g c told =
+returns-in-Err-Memory-clause-outs_alone g c other told =
     zip_yet (IsLeftAlone g.D.Disk.seen g.D.Disk.synced g.D.Disk.pending g.D.Disk.may_leave g.D.Disk.moment g.D.Disk.left_since)
     (alone_yet g.D.Disk.seen g.D.Disk.synced g.D.Disk.pending g.D.Disk.may_leave g.D.Disk.moment g.D.Disk.left_since (λ disk image left. g.met.D.Disk.only_now disk image told left)) c.args.outs.now.items
 
 pub returns-in-Err-Usage-clause-outs_later : goal.returns-in-Err-Usage-clause-outs_later
-returns-in-Err-Usage-clause-outs_later g c = later_yet g.D.Disk.faults c.args.outs.now.items
+returns-in-Err-Usage-clause-outs_later g c other = later_yet g.D.Disk.faults c.args.outs.now.items
 
 pub returns-in-Err-Usage-clause-outs_alone : goal.returns-in-Err-Usage-clause-outs_alone
-returns-in-Err-Usage-clause-outs_alone g c told =
+returns-in-Err-Usage-clause-outs_alone g c other told =
     zip_yet (IsLeftAlone g.D.Disk.seen g.D.Disk.synced g.D.Disk.pending g.D.Disk.may_leave g.D.Disk.moment g.D.Disk.left_since)
     (alone_yet g.D.Disk.seen g.D.Disk.synced g.D.Disk.pending g.D.Disk.may_leave g.D.Disk.moment g.D.Disk.left_since (λ disk image left. g.met.D.Disk.only_now disk image told left)) c.args.outs.now.items
 
 pub returns-in-Print-clause-outs_later : goal.returns-in-Print-clause-outs_later
-returns-in-Print-clause-outs_later g c = later_yet g.D.Disk.faults c.args.outs.now.items
+returns-in-Print-clause-outs_later g c other = later_yet g.D.Disk.faults c.args.outs.now.items
 
 pub returns-in-Print-clause-outs_alone : goal.returns-in-Print-clause-outs_alone
-returns-in-Print-clause-outs_alone g c told =
+returns-in-Print-clause-outs_alone g c other told =
     zip_yet (IsLeftAlone g.D.Disk.seen g.D.Disk.synced g.D.Disk.pending g.D.Disk.may_leave g.D.Disk.moment g.D.Disk.left_since)
     (alone_yet g.D.Disk.seen g.D.Disk.synced g.D.Disk.pending g.D.Disk.may_leave g.D.Disk.moment g.D.Disk.left_since (λ disk image left. g.met.D.Disk.only_now disk image told left)) c.args.outs.now.items
 
 pub returns-in-Help-clause-outs_later : goal.returns-in-Help-clause-outs_later
-returns-in-Help-clause-outs_later g c = later_yet g.D.Disk.faults c.args.outs.now.items
+returns-in-Help-clause-outs_later g c other = later_yet g.D.Disk.faults c.args.outs.now.items
 
 pub returns-in-Help-clause-outs_alone : goal.returns-in-Help-clause-outs_alone
-returns-in-Help-clause-outs_alone g c told =
+returns-in-Help-clause-outs_alone g c other told =
     zip_yet (IsLeftAlone g.D.Disk.seen g.D.Disk.synced g.D.Disk.pending g.D.Disk.may_leave g.D.Disk.moment g.D.Disk.left_since)
     (alone_yet g.D.Disk.seen g.D.Disk.synced g.D.Disk.pending g.D.Disk.may_leave g.D.Disk.moment g.D.Disk.left_since (λ disk image left. g.met.D.Disk.only_now disk image told left)) c.args.outs.now.items
 
 pub returns-in-Version-clause-outs_later : goal.returns-in-Version-clause-outs_later
-returns-in-Version-clause-outs_later g c = later_yet g.D.Disk.faults c.args.outs.now.items
+returns-in-Version-clause-outs_later g c other = later_yet g.D.Disk.faults c.args.outs.now.items
 
 pub returns-in-Version-clause-outs_alone : goal.returns-in-Version-clause-outs_alone
-returns-in-Version-clause-outs_alone g c told =
+returns-in-Version-clause-outs_alone g c other told =
     zip_yet (IsLeftAlone g.D.Disk.seen g.D.Disk.synced g.D.Disk.pending g.D.Disk.may_leave g.D.Disk.moment g.D.Disk.left_since)
     (alone_yet g.D.Disk.seen g.D.Disk.synced g.D.Disk.pending g.D.Disk.may_leave g.D.Disk.moment g.D.Disk.left_since (λ disk image left. g.met.D.Disk.only_now disk image told left)) c.args.outs.now.items
 
 pub returns-clause-outs_later : goal.returns-clause-outs_later
-returns-clause-outs_later g c = later_yet g.D.Disk.faults c.args.outs.now.items
+returns-clause-outs_later g c other = later_yet g.D.Disk.faults c.args.outs.now.items
 
 pub returns-clause-outs_alone : goal.returns-clause-outs_alone
-returns-clause-outs_alone g c told =
+returns-clause-outs_alone g c other told =
+    zip_yet (IsLeftAlone g.D.Disk.seen g.D.Disk.synced g.D.Disk.pending g.D.Disk.may_leave g.D.Disk.moment g.D.Disk.left_since)
+    (alone_yet g.D.Disk.seen g.D.Disk.synced g.D.Disk.pending g.D.Disk.may_leave g.D.Disk.moment g.D.Disk.left_since (λ disk image left. g.met.D.Disk.only_now disk image told left)) c.args.outs.now.items
+
+pub returns-then-threads-clause-outs_later : goal.returns-then-threads-clause-outs_later
+returns-then-threads-clause-outs_later g c other = later_yet g.D.Disk.faults c.args.outs.now.items
+
+pub returns-then-threads-clause-outs_alone : goal.returns-then-threads-clause-outs_alone
+returns-then-threads-clause-outs_alone g c other told =
     zip_yet (IsLeftAlone g.D.Disk.seen g.D.Disk.synced g.D.Disk.pending g.D.Disk.may_leave g.D.Disk.moment g.D.Disk.left_since)
     (alone_yet g.D.Disk.seen g.D.Disk.synced g.D.Disk.pending g.D.Disk.may_leave g.D.Disk.moment g.D.Disk.left_since (λ disk image left. g.met.D.Disk.only_now disk image told left)) c.args.outs.now.items

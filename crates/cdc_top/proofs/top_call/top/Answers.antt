@@ -1,20 +1,36 @@
-use Rattle.std.proofs.Common.{ap, subst, ◌∙◌}
+use Rattle.std.proofs.Common.{ap, subst, sym, ◌∙◌}
+use Rattle.cdc_dump_stage.specs.Disks.{disk_words}
+use Rattle.cdc_node_stage.specs.Job.{source_words}
 use Rattle.cdc_top.specs.Answers.{status_of, line_of, IsSaid}
 use Rattle.cdc_top.specs.declared.answer.Answer.{Answer}
+use Rattle.cdc_top.specs.Ran.{RunSays}
 use Rattle.cdc_top.proofs.Answered.{answered}
+use Rattle.cdc_top.proofs.RunFindings.{run_says}
 use Rattle.cdc_top.proofs.top_call.top.Goals as goal
 
 pub returns-clause-answered : goal.returns-clause-answered
-returns-clause-answered g c =
-    rw (c.status.ensures, c.answer_of-answer.ensures) (answered c.image_has_one_front.ensures g.S.Source.tells g.K.Sink.tells _ c.do_words-found.result c.do_words-found.ensures.findings c.do_words-found.ensures.wrote)
+returns-clause-answered g c other =
+    rw (c.status.ensures, c.answer_of-answer.ensures) (answered c.image_has_one_front.ensures g.S.Source.tells g.K.Sink.tells _ c.do_words-found.result (c.do_words-found.ensures.findings other) (c.do_words-found.ensures.wrote other))
 
 pub returns-clause-answer : goal.returns-clause-answer
-returns-clause-answer g c = (
+returns-clause-answer g c other = (
   c.do_words-found.result,
-  c.do_words-found.ensures.findings,
+  c.do_words-found.ensures.findings other,
   c.status.ensures ∙ ap status_of c.answer_of-answer.ensures,
-  c.do_words-found.ensures.wrote,
+  c.do_words-found.ensures.wrote other,
   λ s. subst
       (λ (a : Answer). IsSaid (g.K.Sink.written c.args.err.now) (line_of a) (g.K.Sink.written c.report.new.err) (g.K.Sink.faults c.args.err.now) (g.K.Sink.faults c.report.new.err))
       c.answer_of-answer.ensures (c.report.ensures.line s),
+)
+
+pub returns-clause-ran : goal.returns-clause-ran
+returns-clause-ran g c run = (
+  c.answer_of-answer.result,
+  subst
+      (RunSays (source_words g.S.Source.tells g.S.Source.held g.S.Source.sizes g.S.Source.lowest g.S.Source.faults)
+      (disk_words g.D.Disk.tells g.D.Disk.seen g.D.Disk.synced g.D.Disk.pending g.D.Disk.may_leave g.D.Disk.moment g.D.Disk.left_since g.D.Disk.faults) g.K.Sink.tells _)
+      (sym c.answer_of-answer.ensures)
+      (run_says _ _ _ _ c.do_words-found.result (c.do_words-found.ensures.ran run)),
+  c.status.ensures,
+  c.report.ensures.line,
 )

@@ -1,0 +1,55 @@
+use Rattle.std.proofs.Common.{refl, sym, ◌∙◌, inl, inr}
+use Rattle.cdc_cell.specs.Reading.{IsLeftAlone}
+use Rattle.cdc_cell.proofs.Alone.{alone_yet}
+use Rattle.cdc_dump_stage.specs.Disks.{disk_words}
+use Rattle.cdc_node_stage.specs.Job.{source_words}
+use Rattle.cdc_list.proofs.Zips.{zip_yet, later_yet}
+use Rattle.cdc_pass.specs.Starting.{output_plan}
+use Rattle.cdc_top.proofs.Behind.{headline_on}
+use Rattle.cdc_top.proofs.Facts.{apart}
+use Rattle.cdc_top.proofs.run_call.pass_over.Goals as goal
+
+-- all was published, and the lines were to be written
+pub returns-then-publishes_all-clause-passed : goal.returns-then-publishes_all-clause-passed
+returns-then-publishes_all-clause-passed g c config = record {
+  outcome = c.run-outcome.result;
+  behind = c.run-outcome.new.outs.items;
+  cause = record {
+    refused = c.run-outcome.ensures.refused;
+    out_failed = c.run-outcome.ensures.out_failed;
+    task_failed = c.run-outcome.ensures.task_failed;
+    node_failed = c.run-outcome.ensures.node_failed;
+  };
+  rest = inr (record {
+    published = c.publishes_all.ensures.0 c.if-publishes_all.true;
+    end = c.write_lines-end.result;
+    found_is = c.findings_of_run.ensures;
+    ended = c.write_lines-end.ensures.ended;
+  });
+  later = c.write_lines-end.ensures.later;
+  alone = c.write_lines-end.ensures.alone;
+  headline = λ told tells logs over.
+      headline_on (source_words g.S.Source.tells g.S.Source.held g.S.Source.sizes g.S.Source.lowest g.S.Source.faults)
+      (disk_words g.D.Disk.tells g.D.Disk.seen g.D.Disk.synced g.D.Disk.pending g.D.Disk.may_leave g.D.Disk.moment g.D.Disk.left_since g.D.Disk.faults)
+      (λ disk t image within left. g.met.D.Disk.counts_now disk t image told within left) (output_plan c.args.plan.now) logs c.args.nodes.now.items c.run-outcome.new.nodes.items c.args.outs.now.items c.run-outcome.new.outs.items
+      c.write_lines-end.new.outs.items c.args.task.now c.run-outcome.new.task c.run-outcome.result (c.write_lines-end.ensures.alone told) (c.run-outcome.ensures.headline told tells logs over);
+}
+
+-- it wasn't
+pub returns-else-publishes_all-clause-passed : goal.returns-else-publishes_all-clause-passed
+returns-else-publishes_all-clause-passed g c config = record {
+  outcome = c.run-outcome.result;
+  behind = c.run-outcome.new.outs.items;
+  cause = record {
+    refused = c.run-outcome.ensures.refused;
+    out_failed = c.run-outcome.ensures.out_failed;
+    task_failed = c.run-outcome.ensures.task_failed;
+    node_failed = c.run-outcome.ensures.node_failed;
+  };
+  rest = inl (record { stopped = λ all. apart (sym (c.publishes_all.ensures.1 all) ∙ c.if-publishes_all.false); found_is = c.findings_of_pass.ensures; nothing = refl });
+  later = later_yet g.D.Disk.faults c.run-outcome.new.outs.items;
+  alone = λ told.
+      zip_yet (IsLeftAlone g.D.Disk.seen g.D.Disk.synced g.D.Disk.pending g.D.Disk.may_leave g.D.Disk.moment g.D.Disk.left_since)
+      (alone_yet g.D.Disk.seen g.D.Disk.synced g.D.Disk.pending g.D.Disk.may_leave g.D.Disk.moment g.D.Disk.left_since (λ disk image left. g.met.D.Disk.only_now disk image told left)) c.run-outcome.new.outs.items;
+  headline = c.run-outcome.ensures.headline;
+}
