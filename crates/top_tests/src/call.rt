@@ -81,14 +81,14 @@ pub fn print_words(alloc: Global, files: usize) -> Result<TextList, Memory> {
     Ok(words)
 }
 
-/// Whether there is a source a file where the words are `print`, and they aren't `run`.
+/// Whether there is a source a file where the words are `print`, and they aren't `run` without threads.
 pub fn fits(alloc: Global, words: &[Text], nodes: usize) -> Result<bool, Memory>
     ensures print { IfOk result (λ fits. IsTrue fits → (files : List (List ℕ)) → command_from words.now ≡ Some (Command.Print files) → nodes ≡ length files) }
     ensures no_run { IfOk result (λ fits. IsTrue fits → IsNoRun words.now) }
 {
     match command_of(alloc, words) {
         Ok(Command::Print(files)) => Ok(files.len() == nodes),
-        Ok(Command::Run { .. }) => Ok(false),
+        Ok(Command::Run { threads, .. }) => Ok(threads),
         Ok(_) => Ok(true),
         Err(Refusal::Usage) => Ok(true),
         Err(_) => Err(Memory),
