@@ -31,7 +31,7 @@ fn disk(alloc: Global) -> Result<UntoldDisk, Memory> {
 }
 
 /// A service of two outs that has published nothing.
-pub fn service(alloc: Global) -> Result<Service, Fail> {
+pub fn empty_service(alloc: Global) -> Result<Service, Fail> {
     let mut outs = Vec::new(alloc);
     outs.push(disk(alloc)?)?;
     outs.push(disk(alloc)?)?;
