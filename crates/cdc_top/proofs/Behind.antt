@@ -1,5 +1,5 @@
 -- A pass, and calls behind it that only look at its outs.
-use Rattle.std.proofs.Common.{ℕ, ◌≤◌, List, [], ◌∷◌, length}
+use Rattle.std.proofs.Common.{ℕ, ◌-◌, ◌≤◌, List, [], ◌∷◌, length, map, arith}
 use Rattle.std.specs.List.{AllByRecursion, AllZip}
 use Rattle.cdc_cell.specs.Reading.{IsLeftAlone}
 use Rattle.cdc_outside.specs.Disk.{Image}
@@ -11,11 +11,21 @@ use Rattle.cdc_recovery.specs.Growing.{Each}
 use Rattle.cdc_dump_stage.specs.Disks.{DiskWords, LosesNothing}
 use Rattle.cdc_node_stage.specs.Job.{SourceWords}
 use Rattle.cdc_opening.specs.declared.outcome.Outcome.{Outcome}
+use Rattle.cdc_opening.specs.Lists.{DeviceRoseAt}
+use Rattle.cdc_list.specs.Listing.{AllLater}
+use Rattle.cdc_list.proofs.Zips.{later_at}
 use Rattle.cdc_headline.specs.Headline.{Headline}
 
 -- an out that was only looked at
 abbrev pub IsLookedAt : {D : Type 0} → DiskWords D → D → D → Type 0
 IsLookedAt w old new = IsLeftAlone w.seen w.synced w.pending w.may_leave w.moment w.left_since old new
+
+-- a count that rose before has risen
+pub rose_till : {D : Type 0} (faults : D → ℕ) (olds mids news : List D) (number : ℕ) → DeviceRoseAt (map faults olds) (map faults mids) number → AllLater faults mids news
+    → DeviceRoseAt (map faults olds) (map faults news) number
+rose_till faults olds mids news number rose later =
+    let less = later_at faults mids news (number - 1) later in
+    record { first = rose.first; last = rose.last; rose = omega (arith, rose.rose, less) }
 
 module _ {D : Type 0} (w : DiskWords D) where
   -- what all images of the outs keep, they keep on

@@ -9,14 +9,14 @@ use Rattle.cdc_task.specs.declared.fault.TaskFault.TheVariants as task
 use Rattle.cdc_headline.specs.Ending.{PublishesAll}
 use Rattle.cdc_list.specs.declared.list_end.ListEnd.{ListEnd}
 use Rattle.cdc_list.specs.declared.list_end.ListEnd.TheVariants as list
-use Rattle.cdc_list.specs.Listing.{IsStopped, IsFrontsText, IsFrontsEnd}
+use Rattle.cdc_list.specs.Listing.{AllLater, IsStopped, IsFrontsText, IsFrontsEnd}
 use Rattle.cdc_list.proofs.Zips.{zip_same}
 use Rattle.cdc_top.specs.declared.config.ConfigStop.{ConfigStop}
 use Rattle.cdc_top.specs.declared.config.ConfigStop.TheVariants as stop
 use Rattle.cdc_top.specs.declared.findings.Findings.{Findings}
 use Rattle.cdc_top.specs.Order.{answer_of, findings_of_config, findings_of_pass, findings_of_lines}
 use Rattle.cdc_top.specs.Planning.{IsNoPlan}
-use Rattle.cdc_top.specs.Ran.{RunCall, lines_seen, IsUntouched, HadStop, HadLines, HadPass, IsRunCall, EndedAs, GaveLines, GaveFrontOfLines, RunSays}
+use Rattle.cdc_top.specs.Ran.{RunCall, lines_seen, IsUntouched, HadStop, HadLines, HadPass, IsRunCall, EndedAs, GaveLines, GaveFrontOfLines, RunSays, LinesStopped}
 use Rattle.cdc_top.proofs.Behind.{IsLookedAt}
 
 module _ {S D : Type 0} (s : SourceWords S) (w : DiskWords D) (shown : Bool) (call : RunCall S D) where
@@ -86,23 +86,27 @@ module _ {S D : Type 0} (s : SourceWords S) (w : DiskWords D) (shown : Bool) (ca
     front_lines : IsFrontsEnd w.tells shown (lines_seen w call behind) list.Sink → GaveFrontOfLines w shown call
     front_lines ended = (ended.0, λ t. ((ended.1 t).0, subst (λ (images : List Image). IsFrontsText images (ended.1 t).0) (sym (same t)) (ended.1 t).1, (ended.1 t).2))
 
+    -- the outs couldn't be looked at
+    lines_stop : (outcome : Outcome) (end : ListEnd) → EndedAs s w call outcome → PublishesAll outcome → AllLater w.faults behind call.outs_now
+        → IsStopped w.tells (map w.seen behind) (map w.faults behind) (map w.faults call.outs_now) end → LinesStopped s w call end
+    lines_stop outcome end ended published later stopped =
+        record { outcome = outcome; ended = ended; published = published; behind = behind; later = later; same = same; stopped = stopped }
+
     -- so it says
-    lines_say : (outcome : Outcome) (end : ListEnd) (ended : EndedAs s w call outcome) → ended.behind ≡ behind → PublishesAll outcome → IsFrontsEnd w.tells shown (lines_seen w call behind) end
+    lines_say : (outcome : Outcome) (end : ListEnd) → EndedAs s w call outcome → PublishesAll outcome → AllLater w.faults behind call.outs_now → IsFrontsEnd w.tells shown (lines_seen w call behind) end
         → RunSays s w shown call (answer_of (findings_of_lines outcome end))
-    lines_say outcome list.Done ended at published is = done_says outcome ended published (all_lines is)
-    lines_say outcome (list.Unopened out fault) ended at published is =
-        (is.1, inr (record { outcome = outcome; ended = ended; published = published; stopped = subst (λ (l : List D). IsStopped w.tells (map w.seen l) (map w.faults l) (map w.faults call.outs_now) (list.Unopened out fault)) (sym at) is.0 }))
-    lines_say outcome (list.Disk out) ended at published is =
-        (is.1, inr (record { outcome = outcome; ended = ended; published = published; stopped = subst (λ (l : List D). IsStopped w.tells (map w.seen l) (map w.faults l) (map w.faults call.outs_now) (list.Disk out)) (sym at) is.0 }))
-    lines_say outcome list.Memory ended at published is = (is.1, inr (outcome, ended))
-    lines_say outcome list.Sink ended at published is = sink_says outcome ended published (front_lines is)
+    lines_say outcome list.Done ended published later is = done_says outcome ended published (all_lines is)
+    lines_say outcome (list.Unopened out fault) ended published later is = (is.1, inr (lines_stop outcome (list.Unopened out fault) ended published later is.0))
+    lines_say outcome (list.Disk out) ended published later is = (is.1, inr (lines_stop outcome (list.Disk out) ended published later is.0))
+    lines_say outcome list.Memory ended published later is = (is.1, inr (outcome, ended))
+    lines_say outcome list.Sink ended published later is = sink_says outcome ended published (front_lines is)
 
   -- what is answered of a pass
   pass_says : (found : Findings) → HadPass s w shown call found → RunSays s w shown call (answer_of found)
   pass_says found had = by_rest had.passed.rest
     where
       ended : EndedAs s w call had.passed.outcome
-      ended = record { plan = had.plan; is_plan = had.is_plan; behind = had.passed.behind; cause = had.passed.cause; headline = had.passed.headline }
+      ended = record { plan = had.plan; is_plan = had.is_plan; cause = had.passed.cause; headline = had.passed.headline }
 
       by_rest : HadStop call had.passed.outcome found ⊎ HadLines w shown call had.passed.behind had.passed.outcome found → RunSays s w shown call (answer_of found)
       by_rest (inl stop) =
@@ -111,7 +115,7 @@ module _ {S D : Type 0} (s : SourceWords S) (w : DiskWords D) (shown : Bool) (ca
           subst (λ (f : Findings). RunSays s w shown call (answer_of f)) (sym lines.found_is)
           (lines_say had.passed.behind
           (λ t. zip_same (IsLookedAt w) w.seen (λ x y alone. alone.same) had.passed.behind call.outs_now (had.passed.alone t))
-          had.passed.outcome lines.end ended refl lines.published lines.ended)
+          had.passed.outcome lines.end ended lines.published had.passed.later lines.ended)
 
   -- what is answered of a call of `run`
   pub run_says : (found : Findings) → IsRunCall s w shown call found → RunSays s w shown call (answer_of found)

@@ -84,10 +84,10 @@ KeepsHeadline s w plan nodes nodes_now outs outs_now task task_now outcome = IsT
     → IsPassOver s w (output_plan plan) logs nodes outs task → Headline s w (output_plan plan) logs nodes nodes_now outs outs_now task task_now outcome
 
 -- why a pass ended so: a refusal of the opening is as the disks and the sources have it; a device that is named has a count that rose
-pub record IsPassCause {S D : Type 0} (s : SourceWords S) (w : DiskWords D) (plan : Plan) (nodes nodes_now : List S) (outs behind : List D) (task task_now : D) (outcome : Outcome) : Type 0 where
+pub record IsPassCause {S D : Type 0} (s : SourceWords S) (w : DiskWords D) (plan : Plan) (nodes nodes_now : List S) (outs outs_now : List D) (task task_now : D) (outcome : Outcome) : Type 0 where
   pub refused : IsTrue w.tells → IsTrue s.tells → IsRefusedOpening outcome
       → AnswersDisks (map w.seen outs) (w.seen task) (length nodes) plan.rotation (Err outcome) × AnswersLogs (map w.seen outs) (w.seen task) (map s.held nodes) (Err outcome)
-  pub out_failed : (number : ℕ) → outcome ≡ pass.Disk number → DeviceRoseAt (map w.faults outs) (map w.faults behind) number
+  pub out_failed : (number : ℕ) → outcome ≡ pass.Disk number → DeviceRoseAt (map w.faults outs) (map w.faults outs_now) number
   pub task_failed : outcome ≡ pass.TaskDisk → Rose (w.faults task) (w.faults task_now)
   pub node_failed : (number : ℕ) → outcome ≡ pass.Read number → DeviceRoseAt (map s.faults nodes) (map s.faults nodes_now) number
 
@@ -122,7 +122,7 @@ pub record HadLines {S D : Type 0} (w : DiskWords D) (shown : Bool) (call : RunC
 pub record MadePass {S D : Type 0} (s : SourceWords S) (w : DiskWords D) (shown : Bool) (plan : Plan) (call : RunCall S D) (found : Findings) : Type 0 where
   pub outcome : Outcome
   pub behind : List D
-  pub cause : IsPassCause s w plan call.nodes call.nodes_now call.outs behind call.task call.task_now outcome
+  pub cause : IsPassCause s w plan call.nodes call.nodes_now call.outs call.outs_now call.task call.task_now outcome
   pub rest : HadStop call outcome found ⊎ HadLines w shown call behind outcome found
   pub later : AllLater w.faults behind call.outs_now
   pub alone : IsTrue w.tells → AllZip (IsLeftAlone w.seen w.synced w.pending w.may_leave w.moment w.left_since) behind call.outs_now
@@ -157,8 +157,7 @@ GaveFrontOfLines w shown call = Rose call.faults_before call.faults_now
 pub record EndedAs {S D : Type 0} (s : SourceWords S) (w : DiskWords D) (call : RunCall S D) (outcome : Outcome) : Type 0 where
   pub plan : Plan
   pub is_plan : IsTrue call.config.told → IsPlanOf call.config.text plan
-  pub behind : List D
-  pub cause : IsPassCause s w plan call.nodes call.nodes_now call.outs behind call.task call.task_now outcome
+  pub cause : IsPassCause s w plan call.nodes call.nodes_now call.outs call.outs_now call.task call.task_now outcome
   pub headline : KeepsHeadline s w plan call.nodes call.nodes_now call.outs call.outs_now call.task call.task_now outcome
 
 -- the pass ended before all was published, and it is answered
@@ -168,12 +167,15 @@ pub record StoppedAs {S D : Type 0} (s : SourceWords S) (w : DiskWords D) (call 
   pub stopped : PublishesAll outcome → ⊥
   pub answered : answer ≡ pass_answer outcome
 
--- the pass published all, and its outs couldn't be looked at behind it
+-- the pass published all, and its outs, as it left them, couldn't be looked at
 pub record LinesStopped {S D : Type 0} (s : SourceWords S) (w : DiskWords D) (call : RunCall S D) (end : ListEnd) : Type 0 where
   pub outcome : Outcome
   pub ended : EndedAs s w call outcome
   pub published : PublishesAll outcome
-  pub stopped : IsStopped w.tells (map w.seen ended.behind) (map w.faults ended.behind) (map w.faults call.outs_now) end
+  pub behind : List D
+  pub later : AllLater w.faults behind call.outs_now
+  pub same : IsTrue w.tells → map w.seen call.outs_now ≡ map w.seen behind
+  pub stopped : IsStopped w.tells (map w.seen behind) (map w.faults behind) (map w.faults call.outs_now) end
 
 -- what an answer says of a call of `run`, and what was written
 abbrev pub RunSays : {S D : Type 0} → SourceWords S → DiskWords D → Bool → RunCall S D → Answer → Type 0

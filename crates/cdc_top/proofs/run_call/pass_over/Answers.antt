@@ -5,7 +5,7 @@ use Rattle.cdc_dump_stage.specs.Disks.{disk_words}
 use Rattle.cdc_node_stage.specs.Job.{source_words}
 use Rattle.cdc_list.proofs.Zips.{zip_yet, later_yet}
 use Rattle.cdc_pass.specs.Starting.{output_plan}
-use Rattle.cdc_top.proofs.Behind.{headline_on}
+use Rattle.cdc_top.proofs.Behind.{rose_till, headline_on}
 use Rattle.cdc_top.proofs.Facts.{apart}
 use Rattle.cdc_top.proofs.run_call.pass_over.Goals as goal
 
@@ -16,7 +16,7 @@ returns-then-publishes_all-clause-passed g c config = record {
   behind = c.run-outcome.new.outs.items;
   cause = record {
     refused = c.run-outcome.ensures.refused;
-    out_failed = c.run-outcome.ensures.out_failed;
+    out_failed = λ number is. rose_till g.D.Disk.faults c.args.outs.now.items c.run-outcome.new.outs.items c.write_lines-end.new.outs.items number (c.run-outcome.ensures.out_failed number is) c.write_lines-end.ensures.later;
     task_failed = c.run-outcome.ensures.task_failed;
     node_failed = c.run-outcome.ensures.node_failed;
   };
