@@ -1,6 +1,6 @@
 //! Calls of `run`: nodes in memory, and outs and a task that don't tell what they have, as folders don't.
 
-ghost use Rattle.std.specs.Prelude.{◌≡◌, ℕ, ◌<◌, ◌^◌, List, Some, ⊥, IsTrue, length, IfOk};
+ghost use Rattle.std.specs.Prelude.{◌≡◌, ℕ, ◌<◌, ◌^◌, List, Some, IsTrue, length, IfOk};
 ghost use Rattle.cdc_config.specs.Words.{command_from};
 
 use crate::call::{Seen, source_of, sources_of, words_of};
@@ -52,13 +52,18 @@ fn print_nothing(alloc: Global, words: &[Text]) -> Result<bool, Memory>
 }
 
 /// Calls `run c` over nodes with these logs, with `|` between them.
-pub fn run_over(alloc: Global, logs: &str, service: &mut Service) -> Result<Seen, Fail> {
+pub fn run_over(
+    alloc: Global,
+    logs: &str,
+    outs: &mut Vec<UntoldDisk>,
+    task: &mut UntoldDisk,
+) -> Result<Seen, Fail> {
     let words = words_of(alloc, &["run", "c"])?;
     let mut nodes = sources_of(alloc, logs)?;
-    if service.outs.len() > 4 || !print_nothing(alloc, words.as_slice())? {
+    if outs.len() > 4 || !print_nothing(alloc, words.as_slice())? {
         return Err("other words or outs")?;
     }
-    if !fits_to_run(alloc, PLAN, nodes.len(), service.outs.len())? {
+    if !fits_to_run(alloc, PLAN, nodes.len(), outs.len())? {
         return Err("other devices")?;
     }
     let mut config = source_of(alloc, PLAN, &[])?;
@@ -69,8 +74,8 @@ pub fn run_over(alloc: Global, logs: &str, service: &mut Service) -> Result<Seen
         words.as_slice(),
         &mut config,
         &mut nodes,
-        &mut service.outs,
-        &mut service.task,
+        outs,
+        task,
         &mut out,
         &mut err,
     );
