@@ -119,6 +119,20 @@ fn the_items_are_the_same_whatever_the_window(rt: HostRuntime) -> Result<(), Fai
     Ok(())
 }
 
+/// Every size from the least one on, up to one behind the log's 19,863 bytes.
+#[test]
+fn the_items_are_the_same_in_windows_of_every_size(rt: HostRuntime) -> Result<(), Fail> {
+    let file = file_of(rt.alloc(), 1, GROUPS + 1)?;
+    for window in 4_096..19_865_u64 {
+        let source = MemSource::new(rt.alloc(), &[file.share()?], &[])?;
+        let told = told_over(rt.alloc(), source, window, 16)?;
+        let windows = (19_863 / window) as u32 + 1;
+        let wanted = wanted(rt.alloc(), windows)?;
+        assert_eq!(&rt; told.as_str(), wanted.as_str(), "{window}");
+    }
+    Ok(())
+}
+
 /// A log with a fault in its middle: its second transaction is prepared twice. Its source fails at the first read, or never.
 fn faulty_source(alloc: Global, fails: bool) -> Result<MemSource, Fail> {
     let log = Log::of(alloc, "H P(g1) C(g1,10) P(g2) P(g2) C(g2,20)")?;
