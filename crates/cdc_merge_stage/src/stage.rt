@@ -1,6 +1,6 @@
 //! The merge stage.
 
-ghost use Rattle.std.specs.Prelude.{◌≡◌, ◌≤◌, ◌<◌, ◌+◌, ◌^◌, ℕ, true, false, List, [], ◌∷◌, length, get_or, set, map, is_some, is_none, Some, None, IfOk};
+ghost use Rattle.std.specs.Prelude.{◌≡◌, ◌≤◌, ◌<◌, ◌+◌, ◌^◌, ℕ, true, false, List, [], ◌∷◌, length, get_or, set, map, is_some, is_none, Some, None, IfOk, IfSome};
 ghost use Rattle.cdc_model.specs.Layout.{IsRotation, HasRoom};
 ghost use Rattle.cdc_turns.specs.Joined.{nothing_for};
 ghost use Rattle.cdc_item.specs.declared.node_item.NodeItem.{NodeItem};
@@ -28,7 +28,8 @@ use std::marker::Model;
 use std::sync::ledger::Ledger;
 
 /// The merge stage: what it makes units of; where it began, and where it stands behind the last unit; which nodes' Ends have come, and the bounds that they told last;
-/// what waits for each output's lane; whether the Ends are given; and how it ended.
+/// the least of these bounds when it last made all that was settled under it; what waits for each output's lane; whether the Ends are
+/// given; and how it ended.
 #[derive(Drop)]
 pub struct MergeStage<'a, L: Ledger> {
     maker: Maker<'a, L>,
@@ -36,6 +37,7 @@ pub struct MergeStage<'a, L: Ledger> {
     behind: MergeStart,
     took: Vec<bool>,
     bounds: Vec<u64>,
+    made_under: Option<u64>,
     slots: Vec<Option<DumpItem>>,
     closing: bool,
     end: MergeEnd,
@@ -88,6 +90,7 @@ impl<'a, L: Ledger> MergeStage<'a, L> {
             behind: start,
             took: no_ends(alloc, nodes)?,
             bounds: no_bounds(alloc, nodes)?,
+            made_under: None,
             slots: no_items(alloc, outs)?,
             closing: false,
             end: MergeEnd::Open,
@@ -254,6 +257,26 @@ impl<'a, L: Ledger> MergeStage<'a, L> {
         }
     }
 
+    // Notes that all was made that is settled under the least bound of the nodes whose Ends haven't come.
+    fn note_bound(&mut self)
+        ensures { self.new ≡ self.old }
+    {
+        self.made_under = match lagging(&self.took, &self.bounds) {
+            Some(node) => Some(self.bounds[node]),
+            None => None,
+        };
+    }
+
+    // The node whose bound is the least, where all was made under that bound; then no branch that comes is settled before it rises.
+    fn still_lagging(&self) -> Option<usize>
+        ensures { IfSome result (λ node. (node < length self.now.took) × (get_or self.now.took node true ≡ false)) }
+    {
+        match (self.made_under, lagging(&self.took, &self.bounds)) {
+            (Some(bound), Some(node)) if self.bounds[node] == bound => Some(node),
+            _ => None,
+        }
+    }
+
     // Gives an End to each output, once all is taken and given.
     fn close_all(&mut self)
         requires all { all_true self.old.took ≡ true }
@@ -330,10 +353,16 @@ impl<'a, L: Ledger> MergeStage<'a, L> {
         if !self.end.is_open() {
             return self.take_or_close(ins, outs);
         }
+        if let Some(node) = self.still_lagging() {
+            return self.take(ins, node);
+        }
         match self.make() {
             MakeStep::Filled => self.push_first(outs),
             MakeStep::Ended => Turn::Moved,
-            MakeStep::Nothing => self.take_or_close(ins, outs),
+            MakeStep::Nothing => {
+                self.note_bound();
+                self.take_or_close(ins, outs)
+            }
         }
     }
 
@@ -347,6 +376,7 @@ impl<'a, L: Ledger> MergeStage<'a, L> {
     {
         reset(&mut self.took);
         self.closing = false;
+        self.made_under = None;
         self.end = self.end.reopened();
     }
 }

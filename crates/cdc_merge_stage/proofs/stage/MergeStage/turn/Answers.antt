@@ -1,7 +1,7 @@
-use Rattle.std.proofs.Common.{◌≡◌, Bool, false, map, sym, ◌∙◌, ap, arith, rules}
+use Rattle.std.proofs.Common.{◌≡◌, Bool, true, false, map, sym, ◌∙◌, ap, arith, rules}
 use Rattle.std.proofs.lemmas.Grind.{common_steps}
 use Rattle.cdc_merge_stage.specs.Merged.{has_given, merges_on}
-use Rattle.cdc_merge_stage.proofs.Turning.{reaches_itself, turn_done, turn_alone, turn_pushed, turn_first}
+use Rattle.cdc_merge_stage.proofs.Turning.{reaches_itself, turn_done, turn_alone, turn_pushed, turn_first, turn_taken}
 use Rattle.cdc_merge_stage.proofs.Works.{given_none}
 use Rattle.cdc_merge_stage.proofs.stage.MergeStage.turn.Goals as goal
 
@@ -43,7 +43,7 @@ returns-in-Ended g c = turn_alone g.I.LaneOut.moved g.I.LaneOut.empty g.O.LaneIn
 
 pub returns-in-Nothing : goal.returns-in-Nothing
 returns-in-Nothing g c =
-    c.take_or_close-in-Nothing.ensures.turned c.args.self.now (record {
+    c.take_or_close-in-Nothing.ensures.turned c.args.self.now (rw c.note_bound.ensures (record {
       did = λ window takes gives did. (c.in-Nothing.ensures.did window takes gives did).0;
       same = c.make.ensures.same;
       took = c.make.ensures.took.0;
@@ -52,4 +52,12 @@ returns-in-Nothing g c =
           ap (λ (b : Bool). map (has_given b) c.make.new.self.slots) c.make.ensures.took.1 ∙ given_none c.make.new.self.slots c.args.self.now.slots c.make.ensures.same.outs ∙ ap (λ (b : Bool). map (has_given b) c.args.self.now.slots) (sym closing);
       cost = λ price. let cost = c.in-Nothing.ensures.cost price in omega (arith, cost);
       going = (sym c.has_ended.ensures ∙ c.if-has_ended.false);
-    }) (λ window takes gives did going kept. (c.in-Nothing.ensures.did window takes gives did).1 kept)
+    })) (λ window takes gives did going kept. rw c.note_bound.ensures ((c.in-Nothing.ensures.did window takes gives did).1 (rw c.note_bound.ensures at kept)))
+
+-- no unit is settled before the least bound rises
+pub returns-in-Some-still_lagging : goal.returns-in-Some-still_lagging
+returns-in-Some-still_lagging g c =
+    turn_taken g.I.LaneOut.moved g.I.LaneOut.empty g.O.LaneIn.moved g.O.LaneIn.full g.met.I.LaneOut.starts g.met.O.LaneIn.starts c.args.self.now c.args.ins.now c.args.outs.now (sym c.requires.ins) (sym c.requires.outs) c.args.self.now c.take.new.self c.in-Some-still_lagging.node c.take.new.ins c.take.result
+    (reaches_itself c.args.self.now (sym c.has_ended.ensures ∙ c.if-has_ended.false)) (first_of (search rules, grind (arith, common_steps))) (first_of (search rules, grind (arith, common_steps))) (first_of (search rules, grind (arith, common_steps)))
+    (λ is. absurd (let going : merges_on c.args.self.now.end ≡ true = (first_of (search rules, grind (arith, common_steps))) in let e : true ≡ false = sym going ∙ ap merges_on is in cc))
+    c.take.ensures.takes c.take.auto.ins
