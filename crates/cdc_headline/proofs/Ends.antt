@@ -25,7 +25,7 @@ use Rattle.cdc_windows.specs.Rereading.{AreOver}
 use Rattle.cdc_windows.specs.Sourced.{is_over_by, node_rereading}
 use Rattle.cdc_reads.specs.Begun.{files_of_jobs}
 use Rattle.cdc_reads.specs.Ended.{AreReadThrough, HaveAllEnded}
-use Rattle.cdc_headline.specs.Ending.{cause_of_node, causes_of_nodes, cause_of_merge, IsPassEnd, PublishesAll}
+use Rattle.cdc_headline.specs.Ending.{cause_of_node, causes_of_nodes, cause_of_merge, IsPassEnd, PublishesAll, ReadsAll}
 use Rattle.cdc_headline.proofs.Causes.{EndsAt}
 
 -- a node, counted from 1, ended so
@@ -158,6 +158,27 @@ pub record EndsSo {S : Type 0} (s : SourceWords S) (plan : OutputPlan) (logs : L
   pub ends : IsPassEnd plan logs (files_of_jobs s jobs) outcome
   pub all : PublishesAll outcome → (whole ≡ true) × (count ≡ length (planned_transactions plan logs))
 
+-- each reading was read through, the merging is whole, and no output and no want of memory stopped the pass
+pub record IsReadOut {S : Type 0} (laters : List (SourcedStage S)) (later : MergeState) (passed : Passed) : Type 0 where
+  pub late : 11 < place_of_outcome passed.cause
+  pub through : AreReadThrough laters
+  pub whole : later.end ≡ merging.Whole
+
+-- answers that read all come late
+reads_late : (outcome : Outcome) → ReadsAll outcome → 12 < place_of_outcome outcome
+reads_late Done all = omega arith
+reads_late (Disk out) all = absurd all
+reads_late TaskDisk all = absurd all
+reads_late (Read node) all = absurd all
+reads_late Memory all = absurd all
+reads_late (TooLarge number bytes) all = absurd all
+reads_late (Node node place fault) all = omega arith
+reads_late (Open out fault) all = absurd all
+reads_late (Task fault) all = absurd all
+reads_late (Behind node kept given) all = absurd all
+reads_late (Differs out kept given) all = absurd all
+reads_late (OtherKey out kept given) all = absurd all
+
 -- what isn't less is at least
 not_less : (x y : ℕ) → (x < y → ⊥) → y ≤ x
 not_less x y never = omega (arith, never)
@@ -167,18 +188,31 @@ module _ {S : Type 0} (s : SourceWords S) (tells : IsTrue s.tells) (plan : Outpu
   disks_are_late : (outcome : Outcome) → HasStopped s plan logs jobs laters later passed outcome → place_of_outcome outcome ≤ place_of_outcome passed.cause
   disks_are_late outcome stopped = not_less (place_of_outcome passed.cause) (place_of_outcome outcome) (λ less. stopped.disks_later (inl less))
 
-  -- all was given behind readings that are over and a merging that is whole
-  given_all : (outcome : Outcome) → HasStopped s plan logs jobs laters later passed outcome → 12 < place_of_outcome outcome → AreOver (node_rereading s) laters
+  -- behind a late answer all was read, and the merging is whole
+  read_out : (outcome : Outcome) → HasStopped s plan logs jobs laters later passed outcome → 12 < place_of_outcome outcome → IsReadOut laters later passed
+  read_out outcome stopped late =
+      let by_disks = disks_are_late outcome stopped in
+      record {
+        late = omega (arith, late, by_disks);
+        through = all_read_through s 1 laters outcome (omega (arith, late)) stopped.nodes_later (stopped.over (omega (arith, late, by_disks)));
+        whole = merged_whole later.end outcome late stopped.merge_later stopped.merged;
+      }
+
+  -- so it is where it reads all
+  pub reads_all : (outcome : Outcome) → HasStopped s plan logs jobs laters later passed outcome → ReadsAll outcome → IsReadOut laters later passed
+  reads_all outcome stopped all = read_out outcome stopped (reads_late outcome all)
+
+  -- all was given then
+  given_all : (outcome : Outcome) → HasStopped s plan logs jobs laters later passed outcome → 12 < place_of_outcome outcome
       → (later.behind.count ≡ length (planned_transactions plan logs)) × (oversized_transaction plan.rules 0 first_key logs ≡ None)
-  given_all outcome stopped late over =
-      stopped.all_given (all_read_through s 1 laters outcome (omega (arith, late)) stopped.nodes_later over) (merged_whole later.end outcome late stopped.merge_later stopped.merged)
+  given_all outcome stopped late = let out = read_out outcome stopped late in stopped.all_given out.through out.whole
 
   -- by each answer
   pub ends_so : (outcome : Outcome) → HasStopped s plan logs jobs laters later passed outcome → EndsSo s plan logs jobs later.behind.count passed.whole outcome
   ends_so Done stopped =
       let late = disks_are_late Done stopped in
       let over = stopped.over (omega (arith, late)) in
-      let given = given_all Done stopped (omega arith) over in
+      let given = given_all Done stopped (omega arith) in
       record { ends = (all_clean s tells 1 jobs laters (stopped.ended over) stopped.nodes_later, given.1); all = λ is. (stopped.whole (omega (arith, late)), given.0) }
   ends_so (Disk out) stopped = record { ends = tt; all = λ is. absurd is }
   ends_so TaskDisk stopped = record { ends = tt; all = λ is. absurd is }
@@ -194,7 +228,7 @@ module _ {S : Type 0} (s : SourceWords S) (tells : IsTrue s.tells) (plan : Outpu
   ends_so (Node node place fault) stopped =
       let late = disks_are_late (Node node place fault) stopped in
       let over = stopped.over (omega (arith, late)) in
-      let given = given_all (Node node place fault) stopped (omega arith) over in
+      let given = given_all (Node node place fault) stopped (omega arith) in
       record {
         ends = (least_fault s tells jobs laters node place fault (stopped.ended over) stopped.told stopped.nodes_later, given.1);
         all = λ is. (stopped.whole (omega (arith, late)), given.0);

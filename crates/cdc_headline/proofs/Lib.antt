@@ -4,5 +4,6 @@ mod Beginning
 mod Causes
 mod Ends
 mod Resuming
+mod Lasting
 mod Rising
 mod Running

@@ -31,7 +31,7 @@ use Rattle.cdc_opening.specs.TaskAnswers.{IsTaskKept}
 use Rattle.cdc_kept.specs.Kept.{MayAnswer}
 use Rattle.cdc_kept.specs.Laws.{IsOpeningOfKept, KeptIsOpened}
 use Rattle.cdc_windows.specs.Windows.{TaskGoesOn}
-use Rattle.cdc_headline.specs.Ending.{IsPassEnd, PublishesAll}
+use Rattle.cdc_headline.specs.Ending.{IsPassEnd, PublishesAll, ReadsAll}
 use Rattle.cdc_headline.specs.Running.{IsPassOver, HasOpened, KeepsSource}
 use Rattle.cdc_headline.specs.Laws.{OpeningKeepsHeadline}
 use Rattle.cdc_headline.proofs.Lists.{all_seen, zip_weaker, zip_long}
@@ -65,6 +65,21 @@ answer_publishes_less (Task fault) may all = may
 answer_publishes_less (Behind node kept given) may all = may
 answer_publishes_less (Differs out kept given) may all = may
 answer_publishes_less (OtherKey out kept given) may all = may
+
+-- with none of them all is read
+answer_reads_less : (outcome : Outcome) → MayAnswer outcome → ReadsAll outcome → ⊥
+answer_reads_less Done may all = may
+answer_reads_less (Disk out) may all = all
+answer_reads_less TaskDisk may all = all
+answer_reads_less (Read node) may all = all
+answer_reads_less Memory may all = all
+answer_reads_less (TooLarge number bytes) may all = all
+answer_reads_less (Node node place fault) may all = may
+answer_reads_less (Open out fault) may all = all
+answer_reads_less (Task fault) may all = all
+answer_reads_less (Behind node kept given) may all = all
+answer_reads_less (Differs out kept given) may all = all
+answer_reads_less (OtherKey out kept given) may all = all
 
 -- what an opening answered, or want of memory behind it
 may_answer : (result : Result Opened Outcome) (outcome : Outcome) → IfErr result MayAnswer → (result ≡ Err outcome) ⊎ (outcome ≡ Memory) → MayAnswer outcome
@@ -205,6 +220,7 @@ opening_keeps_headline {S} {D} s w seen_may_stay counts_now kept_is_opened = λ 
       outs_grow = grew;
       task_goes_on = task_stood w stays counts told plan logs outs_now task task_now over.task_kept opened.task_kept (outs_covered w stays counts plan txns 0 outs outs_now grew over.outs_kept);
       published = λ all. absurd (answer_publishes_less outcome may all);
+      last = λ all. absurd (answer_reads_less outcome may all);
       ends = answer_ends plan logs (map s.held nodes) outcome may;
       resumed = λ point has reached.
           let long = points_long plan logs (map s.held nodes) point over.whole (task_point w stays counts plan logs task point over.task_kept has) in

@@ -10,6 +10,7 @@ use Rattle.cdc_model.specs.Restart.{RestartPoint}
 use Rattle.cdc_reader.specs.Asking.{NothingBelow}
 use Rattle.cdc_recovery.specs.Outputs.{planned_transactions, KeepsFrom}
 use Rattle.cdc_recovery.specs.Growing.{Each}
+use Rattle.cdc_recovery.specs.Laws.{LatestIsLast}
 use Rattle.cdc_dump_stage.specs.Disks.{DiskWords}
 use Rattle.cdc_merge_stage.specs.declared.merge_end.MergeEnd.{MergeEnd}
 use Rattle.cdc_node_stage.specs.Job.{SourceWords, SourcedStage}
@@ -20,7 +21,7 @@ use Rattle.cdc_opening.specs.Outcomes.{ComesBefore}
 use Rattle.cdc_kept.specs.Kept.{PassStart, opened_start}
 use Rattle.cdc_kept.specs.Laws.{OpenedGoesOn}
 use Rattle.cdc_reads.specs.Begun.{AllBegin}
-use Rattle.cdc_reads.specs.Laws.{JobsReadLogs, AllWindowsGiveAll, TooLargeIsOversized, EndsAreFaults}
+use Rattle.cdc_reads.specs.Laws.{JobsReadLogs, AllWindowsGiveAll, TooLargeIsOversized, EndsAreFaults, LastWindowsPointIsTheLast}
 use Rattle.cdc_windows.specs.Causes.{IsOneOf, IsCausedBy, causes_of_pass}
 use Rattle.cdc_windows.specs.Sourced.{HasReadOn}
 use Rattle.cdc_headline.specs.Ending.{causes_of_nodes, cause_of_merge, IsPassEnd}
@@ -30,8 +31,9 @@ use Rattle.cdc_headline.proofs.Lists.{all_joined, all_split}
 use Rattle.cdc_headline.proofs.Opening.{opening_of_kept, outs_grew, outs_grew_on, outs_covered, task_stood_before, task_kept_on}
 use Rattle.cdc_headline.proofs.Beginning.{files_of_nodes, goes_on, has_begun, has_kept}
 use Rattle.cdc_headline.proofs.Causes.{one_has, nodes_have, outs_have, pass_has}
-use Rattle.cdc_headline.proofs.Ends.{IsTold, merge_told, HasStopped, ends_so}
+use Rattle.cdc_headline.proofs.Ends.{IsTold, merge_told, HasStopped, reads_all, ends_so}
 use Rattle.cdc_headline.proofs.Resuming.{starts_at_point, asked_below, asked_below_since}
+use Rattle.cdc_headline.proofs.Lasting.{remember_begun, keeps_last}
 
 -- what an answer about the disks may be
 abbrev IsOfDisks : Outcome → Type 0
@@ -91,8 +93,8 @@ read_on {S} s jobs laters nodes mid nodes_now points wanted last begin read of t
 -- an opening and its windows keep the headline
 pub windows_keep_headline : {S D : Type 0} (s : SourceWords S) (w : DiskWords D) → ((disk : D) → IsTrue w.tells → w.may_leave disk (w.seen disk))
     → ((disk : D) (t : ℕ) (image : Image) → IsTrue w.tells → t ≤ w.moment disk → w.may_leave disk image → w.left_since disk t image)
-    → OpenedGoesOn → JobsReadLogs s → AllWindowsGiveAll s → TooLargeIsOversized s → EndsAreFaults s → WindowsKeepHeadline s w
-windows_keep_headline {S} {D} s w seen_may_stay counts_now opened_goes_on jobs_read_logs all_windows_give_all too_large_is_oversized ends_are_faults = λ plan logs nodes mid nodes_now outs outs_mid outs_now task task_mid task_now opened outcome tells told over has_opened ran.
+    → OpenedGoesOn → JobsReadLogs s → AllWindowsGiveAll s → TooLargeIsOversized s → EndsAreFaults s → LastWindowsPointIsTheLast s → LatestIsLast → WindowsKeepHeadline s w
+windows_keep_headline {S} {D} s w seen_may_stay counts_now opened_goes_on jobs_read_logs all_windows_give_all too_large_is_oversized ends_are_faults last_windows_point_is_the_last latest_is_last = λ plan logs nodes mid nodes_now outs outs_mid outs_now task task_mid task_now opened outcome tells told over has_opened ran.
     let stays : (disk : D) → w.may_leave disk (w.seen disk) = λ disk. seen_may_stay disk told in
     let counts : (disk : D) (t : ℕ) (image : Image) → t ≤ w.moment disk → w.may_leave disk image → w.left_since disk t image = λ disk t image le leaves. counts_now disk t image told le leaves in
     let txns = planned_transactions plan logs in
@@ -118,14 +120,20 @@ windows_keep_headline {S} {D} s w seen_may_stay counts_now opened_goes_on jobs_r
     } in
     let ends = ends_so s tells plan logs ran.jobs ran.laters ran.later ran.passed outcome stopped in
     let opening_grew = outs_grew w stays counts told plan txns outs outs_mid has_opened.outs_kept in
+    let goes_on_so =
+    task_stood_before w stays counts told plan logs ran.later.behind.count (length txns) outs_now task task_mid task_now given.within over.task_kept has_opened.task_kept
+    (kept.task (outs_covered w stays counts plan txns 0 outs outs_mid opening_grew over.outs_kept) (task_kept_on w stays counts told plan logs task task_mid over.task_kept has_opened.task_kept)) in
     record {
       outs_grow = outs_grew_on w stays counts plan txns outs outs_mid outs_now opening_grew kept.outs;
-      task_goes_on =
-          task_stood_before w stays counts told plan logs ran.later.behind.count (length txns) outs_now task task_mid task_now given.within over.task_kept has_opened.task_kept
-          (kept.task (outs_covered w stays counts plan txns 0 outs outs_mid opening_grew over.outs_kept) (task_kept_on w stays counts told plan logs task task_mid over.task_kept has_opened.task_kept));
+      task_goes_on = goes_on_so;
       published = λ all.
           let both = ends.all all in
           subst (λ (count : ℕ). AllByRecursion (λ (disk : D). Each (w.may_leave disk) (KeepsFrom plan txns count)) outs_now) both.1 (kept.all both.0);
+      last = λ all.
+          let out = reads_all s tells plan logs ran.jobs ran.laters ran.later ran.passed outcome stopped all in
+          keeps_last s w counts latest_is_last plan logs ran.laters ran.later (length txns) outs_now task task_now
+          (λ cuts may. last_windows_point_is_the_last plan logs start.points ran.jobs ran.merge ran.laters ran.later cuts begun ran.ran out.through out.whole may)
+          (ran.last told logs ran.merge.start.count reads (remember_begun s plan logs start.points ran.jobs ran.merge begun) out.late) goes_on_so;
       ends = subst (λ (files : List (List (List ℕ))). IsPassEnd plan logs files outcome) (files_of_nodes s nodes mid ran.jobs ran.of_nodes has_opened.nodes_kept) ends.ends;
       resumed = λ point has reached.
           let at_point = starts_at_point w.seen plan txns nodes outs opened.dumpers.items opened.kept opened.start point has_opened.disks.0 reached has_opened.start (image_has_one_point (w.seen task) opened.kept (Some point) has_opened.disks.1 has) in

@@ -78,6 +78,21 @@ PublishesAll (Behind node kept given) = ⊥
 PublishesAll (Differs out kept given) = ⊥
 PublishesAll (OtherKey out kept given) = ⊥
 
+-- with this answer each log was read to its end or its fault, and nothing stops a later pass
+abbrev pub ReadsAll : Outcome → Type 0
+ReadsAll Done = Unit {0}
+ReadsAll (Disk out) = ⊥
+ReadsAll TaskDisk = ⊥
+ReadsAll (Read node) = ⊥
+ReadsAll Memory = ⊥
+ReadsAll (TooLarge number bytes) = ⊥
+ReadsAll (Node node place fault) = Unit {0}
+ReadsAll (Open out fault) = ⊥
+ReadsAll (Task fault) = ⊥
+ReadsAll (Behind node kept given) = ⊥
+ReadsAll (Differs out kept given) = ⊥
+ReadsAll (OtherKey out kept given) = ⊥
+
 -- a refusal of the opening
 abbrev pub IsRefusedOpening : Outcome → Type 0
 IsRefusedOpening Done = ⊥

@@ -5,6 +5,7 @@ use Rattle.cdc_base.specs.declared.key.Key.{Key}
 use Rattle.cdc_outside.specs.Disk.{Image}
 use Rattle.cdc_model.specs.declared.node_log.NodeLog.{NodeLog}
 use Rattle.cdc_model.specs.Growth.{IsReadWhole}
+use Rattle.cdc_model.specs.Transaction.{key_at}
 use Rattle.cdc_records.specs.declared.checkpoint.Checkpoint.{Checkpoint}
 use Rattle.cdc_recovery.specs.Outputs.{OutputPlan, planned_transactions, KeepsFrom}
 use Rattle.cdc_recovery.specs.Checkpoints.{KeepsPoint}
@@ -29,9 +30,9 @@ use Rattle.cdc_windows.specs.declared.pass.Passed.{Passed}
 use Rattle.cdc_windows.specs.Causes.{IsFirstPassCause, IsCausedBy}
 use Rattle.cdc_windows.specs.Jobs.{StartsSoundly}
 use Rattle.cdc_windows.specs.Passes.{PassKeeps}
-use Rattle.cdc_windows.specs.Rereading.{AreOver}
+use Rattle.cdc_windows.specs.Rereading.{AreOver, RememberFrom}
 use Rattle.cdc_windows.specs.Sourced.{node_rereading, reached_by}
-use Rattle.cdc_windows.specs.Windows.{ReadLogs}
+use Rattle.cdc_windows.specs.Windows.{ReadLogs, IsLastKept}
 use Rattle.cdc_headline.specs.Ending.{causes_of_nodes, cause_of_merge}
 
 -- before a pass: its sources have the bytes of these logs, each image of each output keeps some first transactions of them, and
@@ -90,5 +91,8 @@ pub record HasRunWindows {S D : Type 0} (s : SourceWords S) (w : DiskWords D) (p
       → StartsSoundly (planned_transactions plan logs) behind
       → AllByRecursion (λ (dumper : DumperState). from ≤ dumper.published.count) dumpers
       → PassKeeps w plan logs later.behind.count passed outs outs_now task task_now
+  pub last : IsTrue w.tells → (logs : List NodeLog) (from : ℕ) → ReadLogs (node_account s) merge_account (node_rereading s) reached_by plan logs from jobs merge
+      → RememberFrom (node_rereading s) (key_at (planned_transactions plan logs) from) jobs → 11 < place_of_outcome passed.cause
+      → IsLastKept w (node_rereading s) plan.rotation laters (reached_by later) task_now
   pub caused : IsCausedBy w.faults outs outs_now task task_now passed.cause
   pub first : IsFirstPassCause (passed.cause ∷ causes_of_nodes 1 laters ++ cause_of_merge later.end ∷ []) outcome

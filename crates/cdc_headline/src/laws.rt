@@ -6,7 +6,11 @@ ghost use Rattle.cdc_headline.specs.Laws.{OpeningKeepsHeadline, WindowsKeepHeadl
 
 use cdc_kept::{kept_disks_are_opened, opened_pass_goes_on};
 use cdc_outside::{Disk, Source};
-use cdc_reads::{all_windows_give_all, ends_are_faults, jobs_read_logs, too_large_is_oversized};
+use cdc_reads::{
+    all_windows_give_all, ends_are_faults, jobs_read_logs, last_windows_point_is_the_last,
+    too_large_is_oversized,
+};
+use cdc_recovery::latest_is_last;
 
 /// A law: a pass that opened, or was refused, and did no more keeps the headline.
 pub fn opening_keeps_headline<S: Source, D: Disk>()
@@ -21,6 +25,8 @@ pub fn windows_keep_headline<S: Source, D: Disk>()
 {
     opened_pass_goes_on();
     jobs_read_logs::<S>();
+    last_windows_point_is_the_last::<S>();
+    latest_is_last();
     all_windows_give_all::<S>();
     too_large_is_oversized::<S>();
     ends_are_faults::<S>();

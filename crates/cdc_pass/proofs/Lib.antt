@@ -5,3 +5,4 @@ pub mod Causes
 pub mod Ran
 pub mod Opened
 pub mod Running
+pub mod Falling

@@ -1,5 +1,5 @@
 -- What jobs that were run in windows did, as what a pass did.
-use Rattle.std.proofs.Common.{◌≡◌, ℕ, ◌⊎◌, inl, inr, Bool, List, [], ◌∷◌, length, map, Option, refl, sym, ◌∙◌, ap, subst}
+use Rattle.std.proofs.Common.{◌≡◌, ℕ, ◌≤◌, ◌⊎◌, inl, inr, Bool, List, [], ◌∷◌, length, map, Option, refl, sym, ◌∙◌, ap, subst}
 use Rattle.std.specs.List.{AllZip, AllByRecursion}
 use Rattle.cdc_base.specs.declared.key.Key.{Key}
 use Rattle.cdc_dumper.specs.State.{DumperState}
@@ -18,6 +18,7 @@ use Rattle.cdc_windows.specs.Sourced.{HasReadOn}
 use Rattle.cdc_windows.proofs.Starting.{same_nothing}
 use Rattle.cdc_headline.specs.Running.{sources_of, merge_start_of, HasRunWindows}
 use Rattle.cdc_pass.specs.Starting.{HasSentNothing, DidNothing, HaveJobsRun, WereJobsRun}
+use Rattle.cdc_pass.proofs.Falling.{none_falls}
 
 -- in the first window nothing was sent
 pub nothing_sent : {S : Type 0} (tells : Bool) (held : S → List (List ℕ)) (jobs : List (SourcedStage S)) → AllByRecursion (HasSentNothing tells held) jobs
@@ -39,12 +40,26 @@ zip_held s [] (l ∷ laters) all = absurd all
 zip_held s (j ∷ jobs) [] all = absurd all
 zip_held s (j ∷ jobs) (l ∷ laters) all = ap (λ files. files ∷ map s.held (sources_of laters)) all.0.asked.held ∙ ap (λ rest. s.held j.source ∷ rest) (zip_held s jobs laters all.1)
 
+-- and their counts of faults don't fall
+zip_later : {S : Type 0} (s : SourceWords S) (jobs laters : List (SourcedStage S)) → AllZip (HasReadOn s) jobs laters → AllZip (λ (old : S) (new : S). s.faults old ≤ s.faults new) (sources_of jobs) (sources_of laters)
+zip_later s [] [] all = tt
+zip_later s [] (l ∷ laters) all = absurd all
+zip_later s (j ∷ jobs) [] all = absurd all
+zip_later s (j ∷ jobs) (l ∷ laters) all = (all.0.asked.later, zip_later s jobs laters all.1)
+
 module _ {S D : Type 0} (s : SourceWords S) (w : DiskWords D) where
   -- sources hold what they held
   pub still_held : (rotation : ℕ) (dumpers : List DumperState) (behind : Option (ℕ × Key)) (jobs : List (SourcedStage S)) (merge : MergeState) (laters : List (SourcedStage S)) (later : MergeState) (outs outs_now : List D) (task task_now : D) (outcome : Outcome)
       → WereJobsRun s w rotation dumpers behind jobs merge laters later outs outs_now task task_now outcome → map s.held (sources_of laters) ≡ map s.held (sources_of jobs)
   still_held rotation dumpers behind jobs merge laters later outs outs_now task task_now outcome (inl nothing) = ap (λ (js : List (SourcedStage S)). map s.held (sources_of js)) nothing.0
   still_held rotation dumpers behind jobs merge laters later outs outs_now task task_now outcome (inr ran) = zip_held s jobs laters ran.ran.ended.nodes_on
+
+  -- no count of theirs falls
+  pub none_fell : (rotation : ℕ) (dumpers : List DumperState) (behind : Option (ℕ × Key)) (jobs : List (SourcedStage S)) (merge : MergeState) (laters : List (SourcedStage S)) (later : MergeState) (outs outs_now : List D) (task task_now : D) (outcome : Outcome)
+      → WereJobsRun s w rotation dumpers behind jobs merge laters later outs outs_now task task_now outcome → AllZip (λ (old : S) (new : S). s.faults old ≤ s.faults new) (sources_of jobs) (sources_of laters)
+  none_fell rotation dumpers behind jobs merge laters later outs outs_now task task_now outcome (inl nothing) =
+      subst (λ (js : List (SourcedStage S)). AllZip (λ (old : S) (new : S). s.faults old ≤ s.faults new) (sources_of jobs) (sources_of js)) (sym nothing.0) (none_falls s.faults (sources_of jobs))
+  none_fell rotation dumpers behind jobs merge laters later outs outs_now task task_now outcome (inr ran) = zip_later s jobs laters ran.ran.ended.nodes_on
 
   -- jobs that were run in windows, as a pass that ran its windows
   windows_ran : (plan : OutputPlan) (from : PassStart) (dumpers : List DumperState) (behind : Option (ℕ × Key)) (jobs : List (SourcedStage S)) (merge : MergeState) (laters : List (SourcedStage S)) (later : MergeState)
@@ -68,6 +83,7 @@ module _ {S D : Type 0} (s : SourceWords S) (w : DiskWords D) where
     whole = ran.whole;
     merged = ran.merged;
     keeps = λ told logs first olds reads opened kept sound few. ran.keeps told plan logs first olds refl reads opened kept sound few;
+    last = λ told logs first reads low behind. ran.last told plan logs first reads low behind;
     caused = ran.caused;
     first = ran.first;
   }

@@ -6,6 +6,7 @@ use Rattle.cdc_config.specs.declared.plan.Plan.{Plan}
 use Rattle.cdc_outside.specs.Disk.{Image}
 use Rattle.cdc_model.specs.declared.node_log.NodeLog.{NodeLog}
 use Rattle.cdc_model.specs.Restart.{RestartPoint}
+use Rattle.cdc_model.specs.Transaction.{key_at}
 use Rattle.cdc_records.specs.declared.front.Front.{Front}
 use Rattle.cdc_recovery.specs.Outputs.{OutputPlan, planned_transactions, KeepsFrom}
 use Rattle.cdc_recovery.specs.Growing.{Each}
@@ -27,9 +28,9 @@ use Rattle.cdc_windows.specs.declared.pass.Passed.{Passed}
 use Rattle.cdc_windows.specs.Causes.{IsFirstPassCause, IsCausedBy}
 use Rattle.cdc_windows.specs.Jobs.{StartsSoundly}
 use Rattle.cdc_windows.specs.Passes.{PassKeeps}
-use Rattle.cdc_windows.specs.Rereading.{AreOver}
+use Rattle.cdc_windows.specs.Rereading.{AreOver, RememberFrom}
 use Rattle.cdc_windows.specs.Sourced.{node_rereading, reached_by}
-use Rattle.cdc_windows.specs.Windows.{ReadLogs}
+use Rattle.cdc_windows.specs.Windows.{ReadLogs, IsLastKept}
 use Rattle.cdc_headline.specs.Ending.{causes_of_nodes, cause_of_merge}
 
 -- how a plan prints transactions and cuts them into files
@@ -78,6 +79,9 @@ pub record HaveJobsRun {S D : Type 0} (s : SourceWords S) (w : DiskWords D) (rot
       → StartsSoundly (planned_transactions plan logs) behind
       → AllByRecursion (λ (dumper : DumperState). from ≤ dumper.published.count) dumpers
       → PassKeeps w plan logs later.behind.count passed outs outs_now task task_now
+  pub last : IsTrue w.tells → (plan : OutputPlan) (logs : List NodeLog) (from : ℕ) → ReadLogs (node_account s) merge_account (node_rereading s) reached_by plan logs from jobs merge
+      → RememberFrom (node_rereading s) (key_at (planned_transactions plan logs) from) jobs → 11 < place_of_outcome passed.cause
+      → IsLastKept w (node_rereading s) rotation laters (reached_by later) task_now
   pub caused : IsCausedBy w.faults outs outs_now task task_now passed.cause
   pub first : IsFirstPassCause (passed.cause ∷ causes_of_nodes 1 laters ++ cause_of_merge later.end ∷ []) outcome
 

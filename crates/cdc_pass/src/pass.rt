@@ -82,6 +82,8 @@ fn run_jobs<L: Ledger, S: Source, D: Disk>(
     requires begun { AllByRecursion (HasSentNothing S.tells S.held) jobs.old }
     requires merges { MergeDid 1 merge.old (nothing_for merge.old.took) (nothing_for merge.old.slots) }
     ensures ran { WereJobsRun (source_words S.tells S.held S.sizes S.lowest S.faults) (disk_words D.tells D.seen D.synced D.pending D.may_leave D.moment D.left_since D.faults) rotation opened.dumpers.items (pass_start opened.kept opened.start) jobs.old merge.old jobs.new merge.new outs.old.items outs.new.items task.old task.new result }
+    ensures outs_later { AllZip (λ old new. D.faults old ≤ D.faults new) outs.old.items outs.new.items }
+    ensures task_later { D.faults task.old ≤ D.faults task.new }
 {
     match run_opened(alloc, rotation, opened, jobs, merge, outs, task, schedule) {
         Ok(passed) => passed
@@ -121,6 +123,9 @@ fn run_stages<L: Ledger, S: Source, D: Disk>(
         → DidNothing nodes.old.items nodes.new.items outs.old.items outs.new.items task.old task.new result
         ⊎ HasRunWindows (source_words S.tells S.held S.sizes S.lowest S.faults) (disk_words D.tells D.seen D.synced D.pending D.may_leave D.moment D.left_since D.faults) (output_plan plan.now) from opened.dumpers.items (pass_start opened.kept opened.start) nodes.old.items nodes.new.items outs.old.items outs.new.items task.old task.new result }
     ensures held { map S.held nodes.new.items ≡ map S.held nodes.old.items }
+    ensures nodes_later { AllZip (λ old new. S.faults old ≤ S.faults new) nodes.old.items nodes.new.items }
+    ensures outs_later { AllZip (λ old new. D.faults old ≤ D.faults new) outs.old.items outs.new.items }
+    ensures task_later { D.faults task.old ≤ D.faults task.new }
 {
     let steps = Steps::<L>::new(blank);
     let Ok(mut merge) = MergeStage::new(
@@ -174,6 +179,9 @@ fn run_from<S: Source, D: Disk>(
     ensures ran { DidNothing nodes.old.items nodes.new.items outs.old.items outs.new.items task.old task.new result
         ⊎ HasRunWindows (source_words S.tells S.held S.sizes S.lowest S.faults) (disk_words D.tells D.seen D.synced D.pending D.may_leave D.moment D.left_since D.faults) (output_plan plan.now) (opened_start nodes.old.items opened) opened.dumpers.items (pass_start opened.kept opened.start) nodes.old.items nodes.new.items outs.old.items outs.new.items task.old task.new result }
     ensures held { map S.held nodes.new.items ≡ map S.held nodes.old.items }
+    ensures nodes_later { AllZip (λ old new. S.faults old ≤ S.faults new) nodes.old.items nodes.new.items }
+    ensures outs_later { AllZip (λ old new. D.faults old ≤ D.faults new) outs.old.items outs.new.items }
+    ensures task_later { D.faults task.old ≤ D.faults task.new }
 {
     let start = merge_start(&opened, nodes);
     let Ok(points) = take_points(alloc, &mut opened, nodes) else {
@@ -235,6 +243,11 @@ pub fn run<S: Source, D: Disk>(
 
     // Sources hold what they held.
     ensures held { map S.held nodes.new.items ≡ map S.held nodes.old.items }
+
+    // No count falls; so there are as many outputs and nodes as before.
+    ensures nodes_later { AllZip (λ old new. S.faults old ≤ S.faults new) nodes.old.items nodes.new.items }
+    ensures outs_later { AllZip (λ old new. D.faults old ≤ D.faults new) outs.old.items outs.new.items }
+    ensures task_later { D.faults task.old ≤ D.faults task.new }
 {
     opening_keeps_headline::<S, D>();
     windows_keep_headline::<S, D>();

@@ -7,6 +7,8 @@ use Rattle.cdc_model.specs.Output.{layout_of}
 use Rattle.cdc_model.specs.Transaction.{oversized_transaction}
 use Rattle.cdc_model.specs.Restart.{RestartPoint, AreRestartPoints, RestartPointIsStart}
 use Rattle.cdc_recovery.specs.Outputs.{OutputPlan, planned_transactions}
+use Rattle.cdc_recovery.specs.Checkpoints.{IsLastCheckpoint}
+use Rattle.cdc_content.specs.Reading.{HaveReadAll, AreLatestOfRead}
 use Rattle.cdc_content.specs.Laws.{ReadingsStandSo, PassReads}
 use Rattle.cdc_item.specs.declared.node_item.NodeItem.{NodeItem}
 use Rattle.cdc_item.specs.declared.dump_item.DumpItem.{DumpItem}
@@ -16,13 +18,13 @@ use Rattle.cdc_merge_stage.specs.declared.merge_end.MergeEnd.TheVariants.{Whole,
 use Rattle.cdc_merge_stage.specs.Making.{units_behind}
 use Rattle.cdc_merge_stage.specs.Merged.{MergeState, HasGivenUnits, AreKept, feeds_of, all_true, all_none, merge_account}
 use Rattle.cdc_merge_stage.specs.MergeLaws.{all_parts}
-use Rattle.cdc_units.specs.Given.{PassGave}
-use Rattle.cdc_units.specs.Laws.{PassGivesPlannedUnits, AllReadGivesAll, TooLargeEndsThePass, PassPointsAreSound, EndsAtOversized}
+use Rattle.cdc_units.specs.Given.{PassGave, point_at}
+use Rattle.cdc_units.specs.Laws.{PassGivesPlannedUnits, AllReadGivesAll, TooLargeEndsThePass, PassPointsAreSound, PassPointIsTheLast, EndsAtOversized}
 use Rattle.cdc_windows.specs.Windows.{HasUnits, AreGiven, HaveEndedFrom}
 use Rattle.cdc_windows.specs.Sourced.{MayRestartAt, node_rereading, reached_by}
 use Rattle.cdc_reads.specs.Begun.{IsPassBegun, files_of_jobs}
 use Rattle.cdc_reads.specs.Ended.{AreReadThrough}
-use Rattle.cdc_reads.specs.Laws.{JobsReadLogs, AllWindowsGiveAll, TooLargeIsOversized}
+use Rattle.cdc_reads.specs.Laws.{JobsReadLogs, AllWindowsGiveAll, TooLargeIsOversized, LastWindowsPointIsTheLast}
 use Rattle.cdc_reads.proofs.AllNodes.{HaveTaken, have_taken, each_by_recursion, have_read_from, have_read_all, all_kept, points_start, all_latest}
 use Rattle.cdc_reads.proofs.Counting.{units_many, all_counted}
 
@@ -94,20 +96,37 @@ module _ {S : Type 0} (w : SourceWords S) (plan : OutputPlan) (logs : List NodeL
               (units_behind later.maker.rules later.maker.rotation later.start.before has.gave) later.slots gives counted none_wait given.units has.outs);
         }
 
-    -- points from which the nodes may be read again are restart points
+    -- points from which the nodes may be read again are the latest ones of what was taken
+    latest_so : RestartPointIsStart → (latests : List RestartPoint)
+        → AllZip (λ (node : SourcedStage S) (latest : RestartPoint). MayRestartAt w node later.behind.last latest) laters latests
+        → AreLatestOfRead 1 later.behind.last points taken_by.takens latests
+    latest_so start_law latests may =
+        all_latest w 1 merge.start.last later.behind.last points nodes laters taken_by.takens sends latests taken_by.each
+        (points_start start_law merge.start.last 1 logs points begun.behind.restart) may
+
+    -- they are restart points
     pub are_points : RestartPointIsStart → PassPointsAreSound → (latests : List RestartPoint)
         → AllZip (λ (node : SourcedStage S) (latest : RestartPoint). MayRestartAt w node later.behind.last latest) laters latests → AreRestartPoints later.behind.last logs latests
     are_points start_law points_law latests may =
-        (points_law plan (files_of_jobs w nodes) logs points taken_by.takens window later sends gives latests pass_gave
-        (all_latest w 1 merge.start.last later.behind.last points nodes laters taken_by.takens sends latests taken_by.each
-        (points_start start_law merge.start.last 1 logs points begun.behind.restart) may)).points
+        (points_law plan (files_of_jobs w nodes) logs points taken_by.takens window later sends gives latests pass_gave (latest_so start_law latests may)).points
+
+    -- all of their logs, where each reading came to its log's end or fault
+    all_read : AreReadThrough laters → HaveReadAll (files_of_jobs w nodes) points taken_by.takens (feeds_of sends)
+    all_read through = have_read_all w law begun.tells 1 merge.start.last points nodes laters taken_by.takens sends taken_by.each through
 
     -- where all was read and the merge stage is whole, all was given
     pub gives_all : AllReadGivesAll → AreReadThrough laters → later.end ≡ Whole
         → (later.behind.count ≡ length (planned_transactions plan logs)) × (oversized_transaction plan.rules 0 first_key logs ≡ None)
     gives_all all_law through whole =
-        all_law plan (files_of_jobs w nodes) logs points taken_by.takens window later sends gives pass_gave
-        (have_read_all w law begun.tells 1 merge.start.last points nodes laters taken_by.takens sends taken_by.each through) whole
+        all_law plan (files_of_jobs w nodes) logs points taken_by.takens window later sends gives pass_gave (all_read through) whole
+
+    -- and the checkpoint of where it stands is the last one
+    pub last_point : AllReadGivesAll → RestartPointIsStart → PassPointIsTheLast → (cuts : List RestartPoint) → AreReadThrough laters → later.end ≡ Whole
+        → AllZip (λ (node : SourcedStage S) (cut : RestartPoint). MayRestartAt w node later.behind.last cut) laters cuts
+        → IsLastCheckpoint plan logs (point_at plan.rotation later.behind cuts)
+    last_point all_law start_law last_law cuts through whole may =
+        last_law plan (files_of_jobs w nodes) logs points taken_by.takens window later sends gives cuts pass_gave (all_read through)
+        (gives_all all_law through whole).0 (latest_so start_law cuts may)
 
     -- where it met a print that is too large, this one ends the logs' transactions
     pub ends_at : TooLargeEndsThePass → (number bytes : ℕ) → later.end ≡ TooLarge number bytes → EndsAtOversized plan logs later number bytes
@@ -133,3 +152,8 @@ all_windows_give_all w law all_law plan logs points nodes merge laters later beg
 pub too_large_is_oversized : {S : Type 0} (w : SourceWords S) → ReadingsStandSo → TooLargeEndsThePass → TooLargeIsOversized w
 too_large_is_oversized w law large_law plan logs points nodes merge laters later number bytes begun run is =
     ends_at w plan logs points nodes merge begun laters later run.window run.sends run.gives run.ended law large_law number bytes is
+
+-- all was read, so the checkpoint is the last one
+pub last_windows_point_is_the_last : {S : Type 0} (w : SourceWords S) → ReadingsStandSo → AllReadGivesAll → RestartPointIsStart → PassPointIsTheLast → LastWindowsPointIsTheLast w
+last_windows_point_is_the_last w law all_law start_law last_law plan logs points nodes merge laters later cuts begun run through whole may =
+    last_point w plan logs points nodes merge begun laters later run.window run.sends run.gives run.ended law all_law start_law last_law cuts through whole may

@@ -1,7 +1,7 @@
 //! The laws of a pass's readings. Each function ensures its law, so that the check proves it.
 
 ghost use Rattle.cdc_node_stage.specs.Job.{source_words};
-ghost use Rattle.cdc_reads.specs.Laws.{JobsReadLogs, AllWindowsGiveAll, TooLargeIsOversized, EndsAreFaults};
+ghost use Rattle.cdc_reads.specs.Laws.{JobsReadLogs, AllWindowsGiveAll, TooLargeIsOversized, EndsAreFaults, LastWindowsPointIsTheLast};
 
 use cdc_content::readings_stand_so;
 use cdc_model::{
@@ -10,7 +10,8 @@ use cdc_model::{
 };
 use cdc_outside::Source;
 use cdc_units::{
-    all_read_gives_all, pass_gives_planned_units, pass_points_are_sound, too_large_ends_the_pass,
+    all_read_gives_all, pass_gives_planned_units, pass_point_is_the_last, pass_points_are_sound,
+    too_large_ends_the_pass,
 };
 
 /// A law: jobs that begin behind planned transactions of their sources' logs read these logs, in however many windows.
@@ -48,4 +49,15 @@ pub fn ends_are_faults<S: Source>()
     log_has_one_entry_list();
     restart_reads_the_rest();
     restart_place_reads_the_rest();
+}
+
+/// A law: where each reading came to its log's end or fault and the merge stage is whole, the checkpoint of where it stands is the
+/// last one of the logs.
+pub fn last_windows_point_is_the_last<S: Source>()
+    ensures { LastWindowsPointIsTheLast (source_words S.tells S.held S.sizes S.lowest S.faults) }
+{
+    readings_stand_so();
+    all_read_gives_all();
+    restart_point_is_start();
+    pass_point_is_the_last();
 }

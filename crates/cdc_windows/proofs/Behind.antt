@@ -43,6 +43,14 @@ was_stored dumps failed true first is behind = refl
 was_stored dumps failed false first is behind =
     absurd (last_of (λ (c : Outcome). ComesBefore c first → ⊥) (causes_of_outs 1 dumps ++ also_cause failed TaskDisk) Memory is.none_before (inl behind))
 
+-- behind a failure of the task's disk that disk worked
+pub task_worked : {D : Type 0} (dumps : List (StagedDisk D)) (failed wanting : Bool) (first : Outcome) → IsFirstPassCause (causes_of_pass dumps failed wanting) first → 8 < place_of_outcome first → failed ≡ false
+task_worked dumps false wanting first is behind = refl
+task_worked dumps true wanting first is behind =
+    absurd
+    (last_of (λ (c : Outcome). ComesBefore c first → ⊥) (causes_of_outs 1 dumps) TaskDisk
+    (all_front (λ (c : Outcome). ComesBefore c first → ⊥) (causes_of_outs 1 dumps ++ TaskDisk ∷ []) (also_cause wanting Memory) is.none_before) (inl behind))
+
 -- behind a refused unit a stage neither refused one nor failed
 well_by : (e : DumpEnd) (n : ℕ) (first : Outcome) → 11 < place_of_outcome first → (ComesBefore (cause_of_out n e) first → ⊥) → is_well e ≡ true
 well_by end_of.Open n first behind never = refl

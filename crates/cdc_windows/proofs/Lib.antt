@@ -12,3 +12,5 @@ pub mod OutsReady
 pub mod Starting
 pub mod Whole
 pub mod Failing
+pub mod Remembering
+pub mod Offered

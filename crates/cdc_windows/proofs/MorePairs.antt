@@ -20,6 +20,13 @@ zip_weaker P Q weaker [] (y ∷ ys) all = absurd all
 zip_weaker P Q weaker (x ∷ xs) [] all = absurd all
 zip_weaker P Q weaker (x ∷ xs) (y ∷ ys) all = (weaker x y all.0, zip_weaker P Q weaker xs ys all.1)
 
+-- what a relation carries over from one to the other
+pub all_over : {A B : Type 0} (R : A → B → Type 0) (P : A → Type 0) (Q : B → Type 0) → ((x : A) (y : B) → R x y → P x → Q y) → (xs : List A) (ys : List B) → AllZip R xs ys → AllByRecursion P xs → AllByRecursion Q ys
+all_over R P Q step [] [] pairs all = tt
+all_over R P Q step [] (y ∷ ys) pairs all = absurd pairs
+all_over R P Q step (x ∷ xs) [] pairs all = absurd pairs
+all_over R P Q step (x ∷ xs) (y ∷ ys) pairs all = (step x y pairs.0 all.0, all_over R P Q step xs ys pairs.1 all.1)
+
 -- the same by recursion
 same_tests : {A : Type 0} (f : A → Bool) (xs ys : List A) → map f ys ≡ map f xs → AllByRecursion (λ (x : A). f x ≡ true) xs → AllByRecursion (λ (y : A). f y ≡ true) ys
 same_tests f xs [] same all = tt

@@ -38,6 +38,7 @@ abbrev pub node_rereading : {S : Type 0} → SourceWords S → Rereading (Source
 node_rereading w = record {
   may_restart = MayRestartAt w;
   over = λ job. is_over_by job.stage.reader.end;
+  known = λ job. job.stage.reader.sorter.trail.known;
   read_on = HasReadOn w;
 }
 

@@ -7,7 +7,11 @@ use Rattle.cdc_model.specs.Output.{layout_of}
 use Rattle.cdc_model.specs.Records.{Transaction}
 use Rattle.cdc_model.specs.Restart.{RestartPoint, AreRestartPoints}
 use Rattle.cdc_model.specs.Transaction.{key_at}
+use Rattle.cdc_cell.specs.declared.cell.Cell.{Cell}
+use Rattle.cdc_cell.specs.Cell.{cell_number_of}
+use Rattle.cdc_cell.specs.Record.{CellRecord, kept_record}
 use Rattle.cdc_records.specs.declared.checkpoint.Checkpoint.{Checkpoint}
+use Rattle.cdc_records.specs.Checkpoint.{IsPoint, point_number}
 use Rattle.cdc_recovery.specs.Outputs.{OutputPlan, planned_transactions, KeepsFrom}
 use Rattle.cdc_recovery.specs.Checkpoints.{KeepsPoint}
 use Rattle.cdc_recovery.specs.Growing.{Each, TaskKept}
@@ -138,3 +142,22 @@ pub record KeptWindow {N D : Type 0} (w : DiskWords D) (r : Rereading N) (rotati
   pub whole : Bool
   pub are_whole : whole ≡ true → AreWholeStages w dumps
   pub any_moment : LeavesOnly w.moment w.left_since old new (IsStoredBy (w.may_leave old) (w.seen old) (whole ≡ true) (IsCheckpointOf r rotation nodes came))
+
+-- the checkpoint of nodes that came so far is kept, or a record whose number isn't below its own, where a record may have it
+pub record IsOffered {N : Type 0} (r : Rereading N) (rotation : ℕ) (nodes : List N) (came : Reached) (cell : Cell) : Type 0 where
+  pub point : Checkpoint
+  pub made : IsCheckpointOf r rotation nodes came point
+  pub kept : IsPoint point → point_number point ≤ cell_number_of cell
+
+-- an image has a record of at least this number
+pub record HasNumberFrom (least : ℕ) (image : Image) : Type 0 where
+  pub is : CellRecord
+  pub there : kept_record image ≡ Some is
+  pub reached : least ≤ is.number
+
+-- behind the last window each image of the task has the record of the checkpoint of where the jobs came, or one whose number isn't
+-- below its own, where a record may have it
+pub record IsLastKept {N D : Type 0} (w : DiskWords D) (r : Rereading N) (rotation : ℕ) (nodes : List N) (came : Reached) (task : D) : Type 0 where
+  pub point : Checkpoint
+  pub made : IsCheckpointOf r rotation nodes came point
+  pub kept : IsPoint point → Each (w.may_leave task) (HasNumberFrom (point_number point))

@@ -3,6 +3,7 @@
 ghost use Rattle.std.specs.Prelude.{◌≡◌, ℕ, ◌+◌, ◌≤◌, ◌<◌, ◌^◌, IsTrue, List, ◌++◌, length, false, true, IfOk, OnOk, OnErr};
 ghost use Rattle.std.specs.List.{AllZip, AllByRecursion};
 ghost use Rattle.cdc_model.specs.declared.node_log.NodeLog.{NodeLog};
+ghost use Rattle.cdc_model.specs.Transaction.{key_at};
 ghost use Rattle.cdc_recovery.specs.Outputs.{OutputPlan, planned_transactions, KeepsFrom};
 ghost use Rattle.cdc_recovery.specs.Growing.{Each};
 ghost use Rattle.cdc_turns.specs.Joined.{nothing_for};
@@ -18,8 +19,8 @@ ghost use Rattle.cdc_opening.specs.declared.outcome.Outcome.{Outcome as OneOutco
 ghost use Rattle.cdc_windows.specs.Causes.{IsFirstPassCause, also_cause, causes_of_pass, IsCausedBy};
 ghost use Rattle.cdc_windows.specs.Passes.{PassKeeps};
 ghost use Rattle.cdc_opening.specs.Outcomes.{place_of_outcome};
-ghost use Rattle.cdc_windows.specs.Rereading.{AreOver};
-ghost use Rattle.cdc_windows.specs.Windows.{ReadLogs, HaveRun};
+ghost use Rattle.cdc_windows.specs.Rereading.{AreOver, RememberFrom};
+ghost use Rattle.cdc_windows.specs.Windows.{ReadLogs, HaveRun, IsLastKept};
 
 use crate::causes::outs_cause;
 use crate::jobs::{dump_jobs, give_back};
@@ -114,7 +115,14 @@ pub fn run_opened<N: NodePart, M: MergeTurns<NodeItem, DumpItem> + MergePart, D:
     // Why the pass ended, if not by the nodes or the merge job.
     ensures cause { IfOk result (λ passed. IsCausedBy D.faults outs.old.items outs.new.items task.old task.new passed.cause) }
     ensures memory { OnErr result ((nodes.new ≡ nodes.old) × (merge.new ≡ merge.old) × (outs.new.items ≡ outs.old.items) × (task.new ≡ task.old)) }
+    // Behind a refused unit in the order of answers the task has the checkpoint of where the jobs came.
+    ensures last { IsTrue D.tells → IfOk result (λ passed. (plan : OutputPlan) (logs : List NodeLog) (from : ℕ)
+        → ReadLogs N.account M.account N.rereading M.came plan logs from nodes.old merge.old
+        → RememberFrom N.rereading (key_at (planned_transactions plan logs) from) nodes.old
+        → 11 < place_of_outcome passed.cause
+        → IsLastKept (disk_words D.tells D.seen D.synced D.pending D.may_leave D.moment D.left_since D.faults) N.rereading rotation nodes.new (M.came merge.new) task.new) }
     ensures later { D.faults task.old ≤ D.faults task.new }
+    ensures outs_later { AllZip (λ old new. D.faults old ≤ D.faults new) outs.old.items outs.new.items }
 {
     let mut ins = match node_lanes(alloc, nodes.len()) {
         Ok(lanes) => lanes,

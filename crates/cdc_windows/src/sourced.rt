@@ -108,6 +108,8 @@ impl<S: Source> NodePart for SourcedNode<S> {
 
     ghost turns_read_on = { λ a b turned. turns_are_read_on (source_words S.tells S.held S.sizes S.lowest S.faults) a b turned };
 
+    ghost turns_keep_known = { λ a b turned. turned.stage.known };
+
     ghost reads_more = { λ a b c p q. read_on_twice (source_words S.tells S.held S.sizes S.lowest S.faults) a b c p q };
 }
 

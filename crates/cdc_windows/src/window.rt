@@ -1,6 +1,6 @@
 //! One window: its turns, and the checkpoint behind it.
 
-ghost use Rattle.std.specs.Prelude.{◌≡◌, ℕ, ◌+◌, ◌≤◌, ◌<◌, ◌^◌, ◌⊎◌, true, false, Some, IsTrue, length, take, IfOk, IfSome, OnOk};
+ghost use Rattle.std.specs.Prelude.{◌≡◌, ℕ, ◌+◌, ◌≤◌, ◌<◌, ◌^◌, ◌⊎◌, true, false, Some, IsTrue, length, take, IfOk, IfSome, IsSome, OnOk};
 ghost use Rattle.std.specs.List.{AllZip, AllByRecursion};
 ghost use Rattle.cdc_base.specs.declared.key.Key.{Key as OneKey};
 ghost use Rattle.cdc_outside.specs.Count.{Rose};
@@ -11,7 +11,8 @@ ghost use Rattle.cdc_dump_stage.specs.Job.{StagedDisk};
 ghost use Rattle.cdc_dump_stage.specs.Taking.{is_well};
 ghost use Rattle.cdc_dump_stage.specs.Disks.{disk_words};
 ghost use Rattle.cdc_windows.specs.Keeping.{IsTaskStanding};
-ghost use Rattle.cdc_windows.specs.Windows.{IsCheckpointOf, IsWholeOut, AreWholeStages, KeptWindow};
+ghost use Rattle.cdc_windows.specs.Rereading.{RememberFrom};
+ghost use Rattle.cdc_windows.specs.Windows.{IsCheckpointOf, IsWholeOut, AreWholeStages, KeptWindow, IsOffered};
 
 use crate::keeper::{Keeper, keep};
 use crate::parts::{MergePart, NodePart};
@@ -25,6 +26,7 @@ use std::alloc::Global;
 // The points from which the nodes are read again behind a last key; none where one of them has none.
 fn cuts_of<N: NodePart>(alloc: Global, nodes: &[N], last: &Key) -> Result<Option<CutList>, Memory>
     ensures points { IfOk result (λ cuts. IfSome cuts (AllZip (λ node cut. N.rereading.may_restart node last.now cut) nodes.now)) }
+    ensures there { RememberFrom N.rereading last.now nodes.now → IfOk result (λ cuts. IsSome cuts) }
 {
     let mut cuts = CutList::new(alloc);
     for node in nodes {
@@ -44,6 +46,7 @@ fn checkpoint_of<N: NodePart>(
     reached: &Reached,
 ) -> Result<Option<Checkpoint>, Memory>
     ensures made { IfOk result (λ point. IfSome point (IsCheckpointOf N.rereading rotation nodes.now reached.now)) }
+    ensures there { RememberFrom N.rereading reached.now.last nodes.now → IfOk result (λ point. IsSome point) }
 {
     let Some(nodes) = cuts_of(alloc, nodes, &reached.last)? else {
         return Ok(None);
@@ -96,6 +99,9 @@ pub(crate) fn keep_window<N: NodePart, M: MergePart, D: Disk>(
     ensures fails { keeper.new.failed ≡ true → (keeper.old.failed ≡ true) ⊎ Rose (D.faults task.old) (D.faults task.new) }
     ensures stays { keeper.old.failed ≡ true → keeper.new.failed ≡ true }
     ensures later { D.faults task.old ≤ D.faults task.new }
+    // Where all outputs have ended well, no node has forgotten too much and the disk works on, it is kept.
+    ensures last { AllByRecursion (λ job. (job.stage.ended ≡ true) × (is_well job.stage.end ≡ true)) dumps.now → RememberFrom N.rereading (M.came merge.now).last nodes.now
+        → keeper.new.failed ≡ false → OnOk result (IsOffered N.rereading rotation nodes.now (M.came merge.now) keeper.new.cell) }
 {
     if !are_whole(dumps) {
         return Ok(());

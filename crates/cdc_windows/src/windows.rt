@@ -3,15 +3,18 @@
 ghost use Rattle.std.specs.Prelude.{◌≡◌, ℕ, ◌+◌, ◌≤◌, ◌<◌, ◌^◌, ◌⊎◌, true, false, IsTrue, List, length, map};
 ghost use Rattle.std.specs.List.{AllZip, AllByRecursion};
 ghost use Rattle.cdc_outside.specs.Count.{Rose};
+ghost use Rattle.cdc_base.specs.declared.key.Key.{Key as OneKey};
 ghost use Rattle.cdc_model.specs.declared.node_log.NodeLog.{NodeLog};
+ghost use Rattle.cdc_model.specs.Transaction.{key_at};
 ghost use Rattle.cdc_recovery.specs.Outputs.{OutputPlan, planned_transactions};
 ghost use Rattle.cdc_turns.specs.Flow.{Line, LanesFit, line_with};
 ghost use Rattle.cdc_dump_stage.specs.Disks.{disk_words};
 ghost use Rattle.cdc_dump_stage.specs.Standing.{IsReadyFor};
 ghost use Rattle.cdc_dump_stage.specs.Job.{StagedDisk, dump_account};
+ghost use Rattle.cdc_dump_stage.specs.Taking.{is_well};
 ghost use Rattle.cdc_windows.specs.Keeping.{IsTaskStanding};
-ghost use Rattle.cdc_windows.specs.Rereading.{AreOver};
-ghost use Rattle.cdc_windows.specs.Windows.{IsBegun, IsFlowing, RunsOn, HasRun, KeptWindow, ReadLogs, KeepsAll};
+ghost use Rattle.cdc_windows.specs.Rereading.{AreOver, RememberFrom};
+ghost use Rattle.cdc_windows.specs.Windows.{IsBegun, IsFlowing, RunsOn, HasRun, KeptWindow, ReadLogs, KeepsAll, IsOffered};
 ghost use Rattle.cdc_item.specs.declared.node_item.NodeItem.{NodeItem};
 ghost use Rattle.cdc_item.specs.declared.dump_item.DumpItem.{DumpItem};
 
@@ -42,6 +45,7 @@ fn are_over<N: NodePart>(nodes: &[N]) -> bool
 fn forget_all<N: NodePart>(nodes: &mut [N], last: &Key)
     ensures sent { (window : ℕ) (sends : List (List NodeItem)) → AllZip (λ node items. N.account.sent node window items) nodes.old sends → AllZip (λ node items. N.account.sent node window items) nodes.new sends }
     ensures ended { map N.account.ended nodes.new ≡ map N.account.ended nodes.old }
+    ensures known { RememberFrom N.rereading last.now nodes.old → RememberFrom N.rereading last.now nodes.new }
     ensures read_on { AllZip N.rereading.read_on nodes.old nodes.new }
 {
     for index in 0..nodes.len() {
@@ -75,6 +79,9 @@ fn run_window<N: NodePart, M: MergeTurns<NodeItem, DumpItem> + MergePart, D: Dis
     ensures place { at.new ≤ length schedule.now }
     ensures fails { keeper.new.failed ≡ true → (keeper.old.failed ≡ true) ⊎ Rose (D.faults task.old) (D.faults task.new) }
     ensures later { D.faults task.old ≤ D.faults task.new }
+    ensures known { (last : OneKey) → RememberFrom N.rereading last nodes.old → RememberFrom N.rereading last nodes.new }
+    ensures last { result ≡ true → AllByRecursion (λ job. (job.stage.ended ≡ true) × (is_well job.stage.end ≡ true)) dumps.new → RememberFrom N.rereading (M.came merge.new).last nodes.new
+        → keeper.new.failed ≡ false → IsOffered N.rereading rotation nodes.new (M.came merge.new) keeper.new.cell }
 {
     run(nodes, ins, merge, outs, dumps, schedule, at);
     keep_window(alloc, rotation, nodes, merge, dumps, keeper, task).is_ok()
@@ -111,6 +118,11 @@ pub fn run_windows<N: NodePart, M: MergeTurns<NodeItem, DumpItem> + MergePart, D
     ensures standing { IsTaskStanding D.tells D.seen D.synced D.pending keeper.new task.new }
     ensures fails { keeper.new.failed ≡ true → (keeper.old.failed ≡ true) ⊎ Rose (D.faults task.old) (D.faults task.new) }
     ensures later { D.faults task.old ≤ D.faults task.new }
+    // Behind the last window its checkpoint is kept, where all outputs are whole and the task's disk works.
+    ensures last { (plan : OutputPlan) (logs : List NodeLog) (from : ℕ) → ReadLogs N.account M.account N.rereading M.came plan logs from nodes.old merge.old
+        → RememberFrom N.rereading (key_at (planned_transactions plan logs) from) nodes.old
+        → result ≡ true → AllByRecursion (λ job. (job.stage.ended ≡ true) × (is_well job.stage.end ≡ true)) dumps.new
+        → keeper.new.failed ≡ false → IsOffered N.rereading rotation nodes.new (M.came merge.new) keeper.new.cell }
 {
     let mut at = 0;
     let mut kept = run_window(

@@ -4,13 +4,14 @@ use Rattle.std.specs.List.{AllZip, AllByRecursion}
 use Rattle.cdc_dump_stage.specs.Disks.{disk_words}
 use Rattle.cdc_node_stage.specs.Job.{source_words}
 use Rattle.cdc_opening.specs.Answers.{used_point}
-use Rattle.cdc_opening.specs.OpenOuts.{IsOutOpened}
+use Rattle.cdc_opening.specs.OpenOuts.{IsOutOpened, IsOutKept}
 use Rattle.cdc_opening.specs.OpenSources.{IsSourceKept}
 use Rattle.cdc_opening.specs.declared.outcome.Outcome.{Outcome}
 use Rattle.cdc_windows.specs.Jobs.{IsReadyOut}
 use Rattle.cdc_windows.proofs.Whole.{lent_back}
 use Rattle.cdc_headline.specs.Running.{HasOpened}
 use Rattle.cdc_pass.specs.Starting.{output_plan, IsClear}
+use Rattle.cdc_pass.proofs.Falling.{kept_falls, falls_then}
 use Rattle.cdc_pass.proofs.Opened.{outs_ready, dumpers_long, sources_kept, sources_held, used_can}
 use Rattle.cdc_pass.proofs.Running.{behind_keeps, behind_names, behind_unrefused, lent_behind, lent_opened, lent_headline, lent_names, lent_rose}
 use Rattle.cdc_pass.proofs.pass.run.Goals as goal
@@ -121,3 +122,29 @@ returns-in-Err-clause-held g c =
     let w = disk_words g.D.Disk.tells g.D.Disk.seen g.D.Disk.synced g.D.Disk.pending g.D.Disk.may_leave g.D.Disk.moment g.D.Disk.left_since g.D.Disk.faults in
     ap (λ (list : List g.row.S.Denot). map g.S.Source.held list) (lent_back c.args.nodes.now.len c.open_pass.new.nodes _ (let a = c.open_pass.auto.nodes in let b = c.deref_mut.ensures.len in omega (arith, a, b)))
     ∙ (sources_held s c.deref_mut.result.now c.open_pass.new.nodes (sources_kept s g.S.Source.highest c.deref_mut.result.now c.open_pass.new.nodes c.in-Err.ensures.nodes_kept) ∙ ap (λ (list : List g.row.S.Denot). map g.S.Source.held list) c.deref_mut.ensures.value)
+
+pub returns-in-Ok-clause-nodes_later : goal.returns-in-Ok-clause-nodes_later
+returns-in-Ok-clause-nodes_later g c = falls_then g.S.Source.faults c.args.nodes.now.items _ c.run_from.new.nodes.items
+    (kept_falls g.S.Source.faults (IsSourceKept g.S.Source.held g.S.Source.sizes g.S.Source.lowest g.S.Source.highest g.S.Source.faults) (λ old new kept. kept.later) c.deref_mut.result.now c.open_pass.new.nodes c.args.nodes.now.items _
+    c.in-Ok.ensures.nodes_kept c.deref_mut.ensures.value (sym (lent_back c.args.nodes.now.len c.open_pass.new.nodes _ (let a = c.open_pass.auto.nodes in let b = c.deref_mut.ensures.len in omega (arith, a, b)))))
+    c.run_from.ensures.nodes_later
+
+pub returns-in-Ok-clause-outs_later : goal.returns-in-Ok-clause-outs_later
+returns-in-Ok-clause-outs_later g c = falls_then g.D.Disk.faults c.args.outs.now.items _ c.run_from.new.outs.items
+    (kept_falls g.D.Disk.faults (IsOutKept g.D.Disk.tells g.D.Disk.seen g.D.Disk.may_leave g.D.Disk.moment g.D.Disk.left_since g.D.Disk.faults) (λ old new kept. kept.later) c.deref_mut-2.result.now c.open_pass.new.outs c.args.outs.now.items _
+    c.in-Ok.ensures.outs_kept c.deref_mut-2.ensures.value (sym (lent_back c.args.outs.now.len c.open_pass.new.outs _ (let a = c.open_pass.auto.outs in let b = c.deref_mut-2.ensures.len in omega (arith, a, b)))))
+    c.run_from.ensures.outs_later
+
+pub returns-in-Ok-clause-task_later : goal.returns-in-Ok-clause-task_later
+returns-in-Ok-clause-task_later g c = let low = c.in-Ok.ensures.task_kept.later in let high = c.run_from.ensures.task_later in omega (arith, low, high)
+
+pub returns-in-Err-clause-nodes_later : goal.returns-in-Err-clause-nodes_later
+returns-in-Err-clause-nodes_later g c = (kept_falls g.S.Source.faults (IsSourceKept g.S.Source.held g.S.Source.sizes g.S.Source.lowest g.S.Source.highest g.S.Source.faults) (λ old new kept. kept.later) c.deref_mut.result.now c.open_pass.new.nodes c.args.nodes.now.items _
+    c.in-Err.ensures.nodes_kept c.deref_mut.ensures.value (sym (lent_back c.args.nodes.now.len c.open_pass.new.nodes _ (let a = c.open_pass.auto.nodes in let b = c.deref_mut.ensures.len in omega (arith, a, b)))))
+
+pub returns-in-Err-clause-outs_later : goal.returns-in-Err-clause-outs_later
+returns-in-Err-clause-outs_later g c = (kept_falls g.D.Disk.faults (IsOutKept g.D.Disk.tells g.D.Disk.seen g.D.Disk.may_leave g.D.Disk.moment g.D.Disk.left_since g.D.Disk.faults) (λ old new kept. kept.later) c.deref_mut-2.result.now c.open_pass.new.outs c.args.outs.now.items _
+    c.in-Err.ensures.outs_kept c.deref_mut-2.ensures.value (sym (lent_back c.args.outs.now.len c.open_pass.new.outs _ (let a = c.open_pass.auto.outs in let b = c.deref_mut-2.ensures.len in omega (arith, a, b)))))
+
+pub returns-in-Err-clause-task_later : goal.returns-in-Err-clause-task_later
+returns-in-Err-clause-task_later g c = c.in-Err.ensures.task_kept.later

@@ -5,6 +5,7 @@ use Rattle.cdc_kept.specs.Kept.{opened_start}
 use Rattle.cdc_model.specs.Restart.{RestartPoint}
 use Rattle.cdc_opening.specs.Answers.{used_point}
 use Rattle.cdc_records.specs.Checkpoint.{IsCut, IsPoint}
+use Rattle.cdc_pass.proofs.Falling.{none_falls}
 use Rattle.cdc_pass.proofs.Opened.{start_cuts, start_small, start_long, used_holds, used_fits}
 use Rattle.cdc_pass.proofs.pass.run_from.Goals as goal
 
@@ -28,3 +29,15 @@ run_stages-requires-clause-stages g c =
           (used_fits (length c.args.nodes.now.items) c.args.plan.now.rotation c.args.opened.start c.args.opened.kept c.requires.fits),
       c.in-Ok-stages_from.ensures,
     )
+
+pub returns-in_default-clause-nodes_later : goal.returns-in_default-clause-nodes_later
+returns-in_default-clause-nodes_later g c = none_falls g.S.Source.faults c.args.nodes.now.items
+
+pub returns-in_default-clause-outs_later : goal.returns-in_default-clause-outs_later
+returns-in_default-clause-outs_later g c = none_falls g.D.Disk.faults c.args.outs.now.items
+
+pub returns-in_default-stages_from-clause-nodes_later : goal.returns-in_default-stages_from-clause-nodes_later
+returns-in_default-stages_from-clause-nodes_later g c = none_falls g.S.Source.faults c.args.nodes.now.items
+
+pub returns-in_default-stages_from-clause-outs_later : goal.returns-in_default-stages_from-clause-outs_later
+returns-in_default-stages_from-clause-outs_later g c = none_falls g.D.Disk.faults c.args.outs.now.items

@@ -1,6 +1,6 @@
 -- Nothing was sent before the first window; what windows keep of jobs, the pass keeps of their disks.
-use Rattle.std.proofs.Common.{◌≡◌, ℕ, List, [], length, Option, sym, ◌∙◌, ap, subst, arith, false, true, not, Bool, ⊎_elim}
-use Rattle.std.specs.List.{AllByRecursion}
+use Rattle.std.proofs.Common.{◌≡◌, ℕ, ◌≤◌, ◌<◌, List, [], length, Option, sym, ◌∙◌, ap, subst, arith, false, true, not, Bool, ⊎_elim}
+use Rattle.std.specs.List.{AllByRecursion, AllZip}
 use Rattle.std.proofs.lemmas.List.Elements.{recursion_from_All}
 use Rattle.cdc_lane.specs.declared.plain.PlainLane.{PlainLane}
 use Rattle.cdc_lane.specs.Held.{held}
@@ -17,8 +17,12 @@ use Rattle.cdc_windows.specs.Jobs.{IsJobOf, StartsSoundly, pass_start}
 use Rattle.cdc_windows.specs.Windows.{AreWholeStages}
 use Rattle.cdc_windows.proofs.Starting.{line_begins, jobs_long, all_ready, disks_back}
 use Rattle.cdc_outside.specs.Count.{Rose}
-use Rattle.cdc_windows.proofs.Behind.{first_same, was_stored, ended_well}
-use Rattle.cdc_windows.proofs.Failing.{outs_rose}
+use Rattle.cdc_outside.proofs.Pending.{durable_left}
+use Rattle.cdc_turns.proofs.Pairwise.{zip_same}
+use Rattle.cdc_opening.specs.Outcomes.{place_of_outcome}
+use Rattle.cdc_windows.proofs.Behind.{first_same, was_stored, task_worked, ended_well}
+use Rattle.cdc_windows.proofs.Failing.{outs_rose, outs_later}
+use Rattle.cdc_windows.proofs.Offered.{last_kept}
 use Rattle.cdc_windows.proofs.Whole.{pass_keeps, lent_back, disks_given}
 use Rattle.cdc_windows.proofs.pass.run_opened.Goals as goal
 
@@ -97,3 +101,39 @@ returns-clause-cause g c =
       task_rose = λ is.
           ⊎_elim (λ (was : ◌≡◌ {A = Bool} false true). absurd cc) (λ (rose : Rose (g.D.Disk.faults c.args.task.now) (g.D.Disk.faults c.run_windows-stored.new.task)). rose) (c.run_windows-stored.ensures.fails is);
     }
+
+pub returns-clause-last : goal.returns-clause-last
+returns-clause-last g c = λ told plan logs from reads low behind.
+    let w = disk_words g.D.Disk.tells g.D.Disk.seen g.D.Disk.synced g.D.Disk.pending g.D.Disk.may_leave g.D.Disk.moment g.D.Disk.left_since g.D.Disk.faults in
+    let run = c.run_windows-stored in
+    let failed = run.new.keeper.failed in
+    let task = run.new.task in
+    let first = c.cause_of-cause.result in
+    let again : c.in-Ok-dump_jobs.jobs.len ≡ length run.new.dumps = let a = run.auto.dumps in let b = c.deref_mut-3.ensures.len in omega (arith, a, b) in
+    let is = first_same c.deref-2.result.now run.new.dumps failed (not run.result) first (c.deref-2.ensures.value ∙ lent_back c.in-Ok-dump_jobs.jobs.len run.new.dumps _ again) c.cause_of-cause.ensures in
+    let stored = was_stored run.new.dumps failed run.result first is (let far : 10 < place_of_outcome first = omega (arith, behind) in far) in
+    let works = task_worked run.new.dumps failed (not run.result) first is (let far : 8 < place_of_outcome first = omega (arith, behind) in far) in
+    let well = ended_well run.new.dumps failed (not run.result) first is behind run.ensures.ran.ran.dumps_ended in
+    last_kept w g.N.NodePart.rereading c.args.rotation run.new.nodes (g.M.MergePart.came run.new.merge) task run.new.keeper.cell
+    (λ image left. durable_left (g.D.Disk.seen task) (g.D.Disk.synced task) (g.D.Disk.pending task) image (run.ensures.standing.durable told works) (λ file. g.met.D.Disk.image_is task image told left file))
+    (run.ensures.standing.knows told works) (run.ensures.last plan logs from reads low stored well works)
+
+pub returns-clause-outs_later : goal.returns-clause-outs_later
+returns-clause-outs_later g c =
+    let w = disk_words g.D.Disk.tells g.D.Disk.seen g.D.Disk.synced g.D.Disk.pending g.D.Disk.may_leave g.D.Disk.moment g.D.Disk.left_since g.D.Disk.faults in
+    let made = subst (λ (jobs : List (StagedDisk g.row.D.Denot)). AllThree (IsJobOf c.pass_start-start.result) c.args.opened.dumpers.items c.args.outs.now.items jobs) (sym c.deref_mut-3.ensures.value) c.in-Ok-dump_jobs.ensures.jobs in
+    let again : c.in-Ok-dump_jobs.jobs.len ≡ length c.run_windows-stored.new.dumps = let a = c.run_windows-stored.auto.dumps in let b = c.deref_mut-3.ensures.len in omega (arith, a, b) in
+    subst (λ (news : List g.row.D.Denot). AllZip (λ (old : g.row.D.Denot) (new : g.row.D.Denot). g.D.Disk.faults old ≤ g.D.Disk.faults new) c.args.outs.now.items news)
+    (disks_given c.give_back.new.outs.items _ _ c.run_windows-stored.new.dumps c.give_back.ensures c.in-Ok-dump_jobs.ensures.taken.1 (lent_back c.in-Ok-dump_jobs.jobs.len c.run_windows-stored.new.dumps _ again))
+    (outs_later w c.pass_start-start.result c.args.opened.dumpers.items c.args.outs.now.items c.deref_mut-3.result.now _ c.run_windows-stored.new.dumps made c.run_windows-stored.ensures.ran.dumps)
+
+pub returns-in-Err-clause-outs_later : goal.returns-in-Err-clause-outs_later
+returns-in-Err-clause-outs_later g c = zip_same (λ (old : g.row.D.Denot) (new : g.row.D.Denot). g.D.Disk.faults old ≤ g.D.Disk.faults new) (λ disk. omega arith) c.args.outs.now.items
+
+pub returns-in-Err-dump_lanes-clause-outs_later : goal.returns-in-Err-dump_lanes-clause-outs_later
+returns-in-Err-dump_lanes-clause-outs_later g c = zip_same (λ (old : g.row.D.Denot) (new : g.row.D.Denot). g.D.Disk.faults old ≤ g.D.Disk.faults new) (λ disk. omega arith) c.args.outs.now.items
+
+pub returns-in-Err-dump_jobs-clause-outs_later : goal.returns-in-Err-dump_jobs-clause-outs_later
+returns-in-Err-dump_jobs-clause-outs_later g c =
+    subst (λ (news : List g.row.D.Denot). AllZip (λ (old : g.row.D.Denot) (new : g.row.D.Denot). g.D.Disk.faults old ≤ g.D.Disk.faults new) c.args.outs.now.items news) (sym c.in-Err-dump_jobs.ensures.kept.1)
+    (zip_same (λ (old : g.row.D.Denot) (new : g.row.D.Denot). g.D.Disk.faults old ≤ g.D.Disk.faults new) (λ disk. omega arith) c.args.outs.now.items)

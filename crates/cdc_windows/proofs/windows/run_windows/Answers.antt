@@ -1,14 +1,20 @@
 -- The first window, and one more.
-use Rattle.std.proofs.Common.{◌≡◌, ◌⊎◌, ◌≤◌, ℕ, Bool, true, inl, inr, ⊎_elim, arith}
+use Rattle.std.proofs.Common.{◌≡◌, ◌⊎◌, ◌≤◌, ℕ, Bool, true, inl, inr, ⊎_elim, sym, subst, arith}
 use Rattle.cdc_outside.specs.Count.{Rose}
+use Rattle.cdc_model.specs.Transaction.{key_at}
+use Rattle.cdc_recovery.specs.Outputs.{planned_transactions}
 use Rattle.cdc_turns.specs.Flow.{line_with}
 use Rattle.cdc_dump_stage.specs.Disks.{disk_words}
 use Rattle.cdc_dump_stage.specs.Job.{dump_account}
 use Rattle.cdc_dump_stage.specs.JobLaws.{gone_nowhere, gone_on}
+use Rattle.cdc_windows.specs.declared.reached.Reached.{Reached}
+use Rattle.cdc_windows.specs.Rereading.{RememberFrom}
 use Rattle.cdc_windows.proofs.Flows.{begins, forgets, flows_on}
 use Rattle.cdc_windows.proofs.MorePairs.{all_seen_same}
 use Rattle.cdc_windows.proofs.Passing.{keeps_first, keeps_later}
+use Rattle.cdc_windows.proofs.Remembering.{turns_remember, remember_first, remember_later}
 use Rattle.cdc_windows.proofs.windows.run_windows.Goals as goal
+use Rattle.cdc_windows.proofs.windows.run_windows.Goals.{then-not-also, else-not-also}
 
 -- a failure of one of two runs is one of both
 fails_more : (first old new : Bool) (a b c : ℕ) → a ≤ b → b ≤ c → (old ≡ true → (first ≡ true) ⊎ Rose a b) → (new ≡ true → (old ≡ true) ⊎ Rose b c) → new ≡ true → (first ≡ true) ⊎ Rose a c
@@ -36,6 +42,9 @@ windows-init g c =
       place = run.ensures.place;
       fails = run.ensures.fails;
       later = run.ensures.later;
+      remember = λ plan logs from reads low.
+          remember_first a m w g.N.NodePart.rereading g.M.MergePart.came plan logs from first reads c.requires.some line runs.has_run (run.ensures.known (key_at (planned_transactions plan logs) from) low);
+      last = run.ensures.last;
     }
 
 pub next_window-requires-clause-nodes_ended : goal.next_window-requires-clause-nodes_ended
@@ -71,4 +80,15 @@ windows-preserved g c =
           fails_more c.args.keeper.now.failed c.windows.keeper.failed run.new.keeper.failed (g.D.Disk.faults c.args.task.now) (g.D.Disk.faults c.windows.task) (g.D.Disk.faults run.new.task) c.windows.invariant.later run.ensures.later
           c.windows.invariant.fails run.ensures.fails;
       later = let low = c.windows.invariant.later in let high = run.ensures.later in omega (arith, low, high);
+      remember = λ plan logs from reads low.
+          let here : RememberFrom r (g.M.MergePart.came c.windows.merge).last c.windows.nodes = c.windows.invariant.remember plan logs from reads low in
+          let forgot : RememberFrom r (g.M.MergePart.came c.windows.merge).last later.new.nodes = subst (λ (came : Reached). RememberFrom r came.last later.new.nodes) c.reached-reached.ensures
+          (later.ensures.known (subst (λ (came : Reached). RememberFrom r came.last c.windows.nodes) (sym c.reached-reached.ensures) here)) in
+          let next_on = turns_remember r a g.met.N.NodePart.turns_keep_known (g.M.MergePart.came c.windows.merge).last later.new.nodes next.new.nodes next.ensures.nodes forgot in
+          remember_later a m w r g.M.MergePart.came plan logs from first reads c.requires.some old between line had flows.0 flows.1 runs (run.ensures.known (g.M.MergePart.came c.windows.merge).last next_on);
+      last = λ kept well low works.
+          elim c.if-not-also.branch [
+            | then-not-also w ↦ absurd (let never = w.kept-is in cc)
+            | else-not-also w ↦ run.ensures.last (let there = w.if-not-also.false in cc) well low works
+          ];
     }

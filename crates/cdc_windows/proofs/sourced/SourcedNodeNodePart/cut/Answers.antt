@@ -1,5 +1,5 @@
 -- The stage's point, where it has forgotten up to no greater key.
-use Rattle.std.proofs.Common.{◌≡◌, ℕ, Bool, false, List, sym, ◌∙◌, ap, subst}
+use Rattle.std.proofs.Common.{◌≡◌, ℕ, Bool, false, List, refl, sym, ◌∙◌, ap, subst}
 use Rattle.std.specs.Ordering.{is_gt}
 use Rattle.cdc_base.specs.declared.key.Key.{Key}
 use Rattle.cdc_base.specs.Key.{key_order}
@@ -27,4 +27,5 @@ returns g c =
     record {
       point = λ window items sent begins.
           subst (IsCutOf c.args.last.now c.in_ok-cut.field-0) stage_is c.in_ok-cut.ensures g.S.Source.tells (g.S.Source.held c.args.self.now.source) window items sent begins most;
+      there = λ low. refl;
     }
