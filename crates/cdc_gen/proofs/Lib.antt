@@ -3,3 +3,4 @@ pub mod Sizes
 pub mod Put
 pub mod Steps
 pub mod Groups
+pub mod Short

@@ -1,7 +1,7 @@
 //! The logs of a drill.
 
-ghost use Rattle.std.specs.Prelude.{◌≡◌, ℕ, ◌+◌, ◌/◌, ◌≤◌, [], ◌++◌, List, length, map, IfOk, OnOk};
-ghost use Rattle.std.specs.List.{range_with_len, flat_map};
+ghost use Rattle.std.specs.Prelude.{◌≡◌, ℕ, ◌+◌, ◌/◌, ◌≤◌, ◌^◌, [], ◌++◌, List, length, map, IfOk, OnOk};
+ghost use Rattle.std.specs.List.{range_with_len, flat_map, AllByRecursion};
 ghost use Rattle.cdc_gen.specs.declared.step.Step.{Step as OneStep};
 ghost use Rattle.cdc_gen.specs.Script.{block_steps, end_steps};
 ghost use Rattle.cdc_gen.specs.Logs.{drill_logs};
@@ -75,12 +75,14 @@ fn frozen(alloc: Global, logs: Vec<Buffer>) -> Result<LogList, Memory>
     Ok(list)
 }
 
-/// The log files of so many nodes with so many transactions on one and two of them, drawn from a seed.
+/// The log files of so many nodes with so many transactions on one and two of them, drawn from a seed. Each has at most 2^40
+/// bytes.
 pub fn logs_of(alloc: Global, seed: u64, nodes: u32, count: u32) -> Result<LogList, Memory>
     requires some { 1 ≤ nodes }
     requires nodes { nodes ≤ 256 }
     requires count { count ≤ 100000 }
-    ensures { IfOk result (λ logs. logs ≡ drill_logs seed nodes count) }
+    ensures logs { IfOk result (λ logs. logs ≡ drill_logs seed nodes count) }
+    ensures short { IfOk result (λ logs. AllByRecursion (λ log. length log ≤ 2 ^ 40) logs) }
 {
     let mut logs = heads(alloc, nodes)?;
     put_blocks(alloc, seed, count, &mut logs)?;

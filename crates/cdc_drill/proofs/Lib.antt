@@ -1,0 +1,4 @@
+pub mod Fresh
+pub mod Finding
+pub mod Passing
+pub mod Endings
