@@ -9,7 +9,8 @@ pub(crate) const MEBIBYTE: u64 = 1_048_576;
 /// drill has fewer than 4,096.
 const ROOM: usize = 1_052_672;
 
-/// How many changes of the output and of the task a file or a window wants at most, beside the transactions' own.
+/// How many changes 1,048,576 bytes of logs bring to a disk at most, beside the transactions' own: a window, a file of the output
+/// and 4,096 transactions end at most once in them, and each end stores a record by four changes.
 const CHANGES: usize = 16;
 
 /// The changes that each disk has room for, beside all others.
@@ -38,10 +39,10 @@ fn total(logs: &LogList) -> u64 {
 }
 
 impl Sizes {
-    /// What a drill of so many transactions on two nodes wants, whose logs these are.
+    /// What a drill wants of so many transactions on one or two nodes each, whose logs these are.
     ///
-    /// An output has fewer bytes than the logs together, so they say how many files and windows there can be. Each transaction is
-    /// one change, and so is the one on one node behind each hundred.
+    /// An output has fewer bytes than the logs together, so their length says how many files and windows there can be. Each
+    /// transaction is one change, and so is the local one behind each hundred.
     pub fn first(logs: &LogList, count: u32) -> Sizes {
         let files = total(logs) / MEBIBYTE + 2;
         let stores = (files as usize)

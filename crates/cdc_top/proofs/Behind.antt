@@ -1,5 +1,5 @@
 -- A pass, and calls behind it that only look at its outs.
-use Rattle.std.proofs.Common.{ℕ, ◌-◌, ◌≤◌, List, [], ◌∷◌, length, map, arith}
+use Rattle.std.proofs.Common.{ℕ, zero, suc, ◌-◌, ◌≤◌, List, [], ◌∷◌, length, map, arith}
 use Rattle.std.specs.List.{AllByRecursion, AllZip}
 use Rattle.cdc_cell.specs.Reading.{IsLeftAlone}
 use Rattle.cdc_outside.specs.Disk.{Image}
@@ -15,6 +15,7 @@ use Rattle.cdc_opening.specs.Lists.{DeviceRoseAt}
 use Rattle.cdc_list.specs.Listing.{AllLater}
 use Rattle.cdc_list.proofs.Zips.{later_at}
 use Rattle.cdc_headline.specs.Headline.{Headline}
+use Rattle.cdc_print.specs.Outcome.{NoCountFell}
 
 -- an out that was only looked at
 abbrev pub IsLookedAt : {D : Type 0} → DiskWords D → D → D → Type 0
@@ -26,6 +27,14 @@ pub rose_till : {D : Type 0} (faults : D → ℕ) (olds mids news : List D) (num
 rose_till faults olds mids news number rose later =
     let less = later_at faults mids news (number - 1) later in
     record { first = rose.first; last = rose.last; rose = omega (arith, rose.rose, less) }
+
+-- where no count fell one by one, none of the list did
+pub none_fell : {S : Type 0} (faults : S → ℕ) (olds news : List S) → AllZip (λ (old new : S). faults old ≤ faults new) olds news → NoCountFell (map faults olds) (map faults news)
+none_fell faults [] [] all place = let h : 0 ≤ 0 = omega (arith) in h
+none_fell faults [] (new ∷ news) all place = absurd all
+none_fell faults (old ∷ olds) [] all place = absurd all
+none_fell faults (old ∷ olds) (new ∷ news) all zero = all.0
+none_fell faults (old ∷ olds) (new ∷ news) all (suc place) = none_fell faults olds news all.1 place
 
 module _ {D : Type 0} (w : DiskWords D) where
   -- what all images of the outs keep, they keep on
@@ -72,6 +81,7 @@ headline_on s w counts plan logs nodes nodes_now outs behind outs_now task task_
     };
   };
   published = λ all. keeps_on w (KeepsFrom plan (planned_transactions plan logs) (length (planned_transactions plan logs))) behind outs_now (h.published all) alone;
+  last = h.last;
   ends = h.ends;
   resumed = h.resumed;
 }

@@ -3,6 +3,7 @@ mod Behind
 mod Facts
 mod KeyWords
 mod ListFindings
+mod Drilled
 mod Planning
 mod PrintFindings
 mod RunFindings

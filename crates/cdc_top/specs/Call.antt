@@ -191,7 +191,7 @@ pub record AreOtherFindings (found : Findings) : Type 0 where
   pub opened : found.unopened ≡ None
   pub lasted : found.failed ≡ None
 
--- what a call met with whose words aren't `run`: its words are no command of it; with `print` and with `list` what these met with; else no more
+-- what a call met with whose words are neither `run` nor `drill`: its words are no command of it; with `print` and with `list` what these met with; else no more
 -- than want of memory or a sink that failed
 pub record AreFindings (told : Bool) (call : TopCall) (found : Findings) : Type 0 where
   pub usage : found.usage ≡ true → is_command call.words ≡ false

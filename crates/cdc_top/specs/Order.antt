@@ -2,6 +2,8 @@
 use Rattle.std.specs.Prelude.{true, false, Option, Some, None, option_map, if◌then◌else◌}
 use Rattle.cdc_print.specs.declared.end.PrintEnd.{PrintEnd}
 use Rattle.cdc_print.specs.declared.end.PrintEnd.TheVariants as print
+use Rattle.cdc_drill.specs.declared.drill_end.DrillEnd.{DrillEnd}
+use Rattle.cdc_drill.specs.declared.drill_end.DrillEnd.TheVariants as drill
 use Rattle.cdc_list.specs.declared.list_end.ListEnd.{ListEnd}
 use Rattle.cdc_list.specs.declared.list_end.ListEnd.TheVariants as list
 use Rattle.cdc_opening.specs.declared.outcome.Outcome.{Outcome}
@@ -143,3 +145,19 @@ findings_of_pass (pass.Key out kept given) = record nothing_met { passed = Some 
 -- what a pass that published all tells, and the end of the lines that were written behind it
 abbrev pub findings_of_lines : Outcome → ListEnd → Findings
 findings_of_lines outcome end = record (findings_of_listing end) { oversized = (findings_of_pass outcome).oversized; faulty = (findings_of_pass outcome).faulty }
+
+-- what the end of a drill tells
+abbrev pub findings_of_drill : DrillEnd → Findings
+findings_of_drill drill.Done = nothing_met
+findings_of_drill (drill.TooLarge number bytes) = record nothing_met { oversized = Some (record { number = number; bytes = bytes }) }
+findings_of_drill (drill.Node node place fault) = record nothing_met { faulty = Some (record { node = node; place = place; fault = fault }) }
+findings_of_drill drill.Memory = wanting_met
+findings_of_drill drill.Sink = sink_met
+
+-- the answer to the end of a drill
+abbrev pub drill_answer : DrillEnd → Answer
+drill_answer drill.Done = Done
+drill_answer (drill.TooLarge number bytes) = TooLarge number bytes
+drill_answer (drill.Node node place fault) = Node node place fault
+drill_answer drill.Memory = Memory
+drill_answer drill.Sink = Sink

@@ -1,13 +1,14 @@
 //! What a call met with, and the order of the answers to it.
 
 ghost use Rattle.std.specs.Prelude.{◌≡◌};
-ghost use Rattle.cdc_top.specs.Order.{answer_of, nothing_met, usage_met, wanting_met, sink_met, findings_of_print, findings_of_listing, findings_of_config, findings_of_lines, pass_answer, task_answer};
+ghost use Rattle.cdc_top.specs.Order.{answer_of, nothing_met, usage_met, wanting_met, sink_met, findings_of_print, findings_of_listing, findings_of_drill, findings_of_config, findings_of_lines, pass_answer, task_answer};
 ghost use Rattle.cdc_top.specs.Order as order;
 
 use crate::answer::Answer;
 use crate::config::ConfigStop;
 use cdc_base::Place;
 use cdc_config::ConfigKey;
+use cdc_drill::DrillEnd;
 use cdc_dumper::OpenFault;
 use cdc_list::ListEnd;
 use cdc_model::NodeFault;
@@ -155,6 +156,32 @@ pub fn findings_of_list(end: &ListEnd) -> Findings
         ListEnd::Disk { out } => found.failed = Some(*out),
         ListEnd::Memory => found.wanting = true,
         ListEnd::Sink => found.sink = true,
+    }
+    found
+}
+
+/// What a drill's end tells.
+pub fn findings_of_drilled(end: &DrillEnd) -> Findings
+    ensures { result ≡ findings_of_drill end.now }
+{
+    let mut found = Findings::none();
+    match end {
+        DrillEnd::Done => {}
+        DrillEnd::TooLarge { number, bytes } => {
+            found.oversized = Some(Oversized {
+                number: *number,
+                bytes: *bytes,
+            });
+        }
+        DrillEnd::Node { node, place, fault } => {
+            found.faulty = Some(Faulty {
+                node: *node,
+                place: *place,
+                fault: *fault,
+            });
+        }
+        DrillEnd::Memory => found.wanting = true,
+        DrillEnd::Sink => found.sink = true,
     }
     found
 }

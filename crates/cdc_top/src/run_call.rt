@@ -5,10 +5,11 @@ ghost use Rattle.std.specs.List.{AllZip, AllByRecursion};
 ghost use Rattle.cdc_cell.specs.Reading.{IsLeftAlone};
 ghost use Rattle.cdc_dump_stage.specs.Disks.{disk_words};
 ghost use Rattle.cdc_headline.specs.Ending.{PublishesAll};
-ghost use Rattle.cdc_list.specs.Listing.{list_seen, AllLater, IsFrontsEnd};
+ghost use Rattle.cdc_list.specs.Listing.{AllLater};
 ghost use Rattle.cdc_node_stage.specs.Job.{source_words};
 ghost use Rattle.cdc_outside.specs.Source.{file_of};
 ghost use Rattle.cdc_pass.specs.Starting.{IsClear};
+ghost use Rattle.cdc_print.specs.Outcome.{NoCountFell};
 ghost use Rattle.cdc_top.specs.Call.{ConfigRun, config_seen};
 ghost use Rattle.cdc_top.specs.Ran.{run_call, MadePass, IsFitToRun, IsRunCall};
 
@@ -17,7 +18,7 @@ use crate::findings::{Findings, findings_of_pass, findings_of_run, findings_of_s
 use cdc_base::Memory;
 use cdc_config::Plan;
 use cdc_gen::schedule_of;
-use cdc_list::{ListEnd, list_fronts};
+use cdc_list::list_fronts;
 use cdc_opening::Outcome;
 use cdc_outside::{Disk, Sink, Source};
 use cdc_pass::run;
@@ -49,19 +50,6 @@ fn publishes_all(outcome: &Outcome) -> bool
     }
 }
 
-/// Writes the lines of the outs. No u32 counts more outs than 2^32 - 1; so many have no lines, as if memory were wanting.
-fn write_lines<D: Disk, K: Sink>(alloc: Global, outs: &mut Vec<D>, out: &mut K) -> ListEnd
-    ensures ended { IsFrontsEnd D.tells K.tells (list_seen D.seen D.faults K.written K.faults outs.old.items outs.new.items out.old out.new) result }
-    ensures alone { IsTrue D.tells → AllZip (IsLeftAlone D.seen D.synced D.pending D.may_leave D.moment D.left_since) outs.old.items outs.new.items }
-    ensures later { AllLater D.faults outs.old.items outs.new.items }
-    ensures sink_later { K.faults out.old ≤ K.faults out.new }
-{
-    if outs.len() > u32::MAX as usize {
-        return ListEnd::Memory;
-    }
-    list_fronts(alloc, outs, out)
-}
-
 /// Passes over the nodes of a plan; where all was published, writes the lines of the outs.
 fn pass_over<S: Source, D: Disk, K: Sink>(
     alloc: Global,
@@ -78,11 +66,14 @@ fn pass_over<S: Source, D: Disk, K: Sink>(
     ensures passed { (config : ConfigRun) → MadePass (source_words S.tells S.held S.sizes S.lowest S.faults) (disk_words D.tells D.seen D.synced D.pending D.may_leave D.moment D.left_since D.faults) K.tells plan.now
         (run_call config nodes.old.items nodes.new.items outs.old.items outs.new.items task.old task.new (K.written out.old) (K.written out.new) (K.faults out.old) (K.faults out.new)) result }
     ensures held { map S.held nodes.new.items ≡ map S.held nodes.old.items }
+    ensures later { NoCountFell (map S.faults nodes.old.items) (map S.faults nodes.new.items) }
+    ensures outs_later { AllLater D.faults outs.old.items outs.new.items }
+    ensures task_later { D.faults task.old ≤ D.faults task.new }
     ensures sink_later { K.faults out.old ≤ K.faults out.new }
 {
     let outcome = run(alloc, plan, nodes, outs, task, turns);
     if publishes_all(&outcome) {
-        let end = write_lines(alloc, outs, out);
+        let end = list_fronts(alloc, outs, out);
         findings_of_run(&outcome, &end)
     } else {
         findings_of_pass(&outcome)
@@ -107,6 +98,9 @@ pub fn run_plan<C: Source, S: Source, D: Disk, K: Sink>(
     ensures held { map S.held nodes.new.items ≡ map S.held nodes.old.items }
     ensures config_later { C.faults config.old ≤ C.faults config.new }
     ensures config_held { C.held config.new ≡ C.held config.old }
+    ensures later { NoCountFell (map S.faults nodes.old.items) (map S.faults nodes.new.items) }
+    ensures outs_later { AllLater D.faults outs.old.items outs.new.items }
+    ensures task_later { D.faults task.old ≤ D.faults task.new }
     ensures sink_later { K.faults out.old ≤ K.faults out.new }
 {
     let plan = match read_plan(alloc, config) {

@@ -15,6 +15,7 @@ pub fn help() -> &'static [u8]
     b"cdc print FILE ..: print the settled transactions of 1 to 256 nodes, one file a node\n\
     cdc run CONFIG [--order N]: publish what is settled to each output\n\
     cdc list CONFIG: print what each output has published\n\
+    cdc drill SEED NODES COUNT [--order N]: print what one pass over made logs publishes\n\
     cdc serve CONFIG [--connections N]: serve each output's published files at its address\n\
     cdc --help: print the commands\n\
     cdc --version: print the name and the version\n"

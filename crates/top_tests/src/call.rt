@@ -3,7 +3,7 @@
 ghost use Rattle.std.specs.Prelude.{◌≡◌, ℕ, List, [], ◌∷◌, Some, IsTrue, length, IfOk};
 ghost use Rattle.cdc_config.specs.Words.{command_from};
 ghost use Rattle.cdc_memory.specs.Source.{held_files};
-ghost use Rattle.cdc_top.specs.Words.{IsNoRun};
+ghost use Rattle.cdc_top.specs.Words.{IsNoPass};
 
 use cdc_base::{Buffer, Memory, Text, TextList};
 use cdc_config::{Command, Refusal, command_of};
@@ -81,21 +81,21 @@ pub fn print_words(alloc: Global, files: usize) -> Result<TextList, Memory> {
     Ok(words)
 }
 
-/// Whether there is a source a file where the words are `print`, and they aren't `run` without threads.
+/// Whether there is a source a file where the words are `print`, and they are neither `run` nor `drill` without threads.
 pub fn fits(alloc: Global, words: &[Text], nodes: usize) -> Result<bool, Memory>
     ensures print { IfOk result (λ fits. IsTrue fits → (files : List (List ℕ)) → command_from words.now ≡ Some (Command.Print files) → nodes ≡ length files) }
-    ensures no_run { IfOk result (λ fits. IsTrue fits → IsNoRun words.now) }
+    ensures no_pass { IfOk result (λ fits. IsTrue fits → IsNoPass words.now) }
 {
     match command_of(alloc, words) {
         Ok(Command::Print(files)) => Ok(files.len() == nodes),
-        Ok(Command::Run { threads, .. }) => Ok(threads),
+        Ok(Command::Run { threads, .. } | Command::Drill { threads, .. }) => Ok(threads),
         Ok(_) => Ok(true),
         Err(Refusal::Usage) => Ok(true),
         Err(_) => Err(Memory),
     }
 }
 
-/// Calls with any words but `run`, an empty configuration and no outs. Where they are `print`, there is to be a source a file.
+/// Calls with any words but `run` and `drill`, an empty configuration and no outs. Where they are `print`, there is to be a source a file.
 pub fn call_with(alloc: Global, words: &[Text], call: Call) -> Result<Seen, Memory> {
     let mut nodes = call.nodes;
     if !fits(alloc, words, nodes.len())? {

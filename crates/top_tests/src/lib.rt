@@ -7,6 +7,8 @@
 #[cfg(test)]
 mod call;
 #[cfg(test)]
+mod drill_tests;
+#[cfg(test)]
 mod expected;
 #[cfg(test)]
 mod fault_tests;
@@ -32,6 +34,8 @@ mod piece_tests;
 mod row_tests;
 #[cfg(test)]
 mod sink_tests;
+#[cfg(test)]
+mod stop_tests;
 #[cfg(test)]
 mod table;
 #[cfg(test)]

@@ -7,7 +7,7 @@ use crate::call::{Seen, source_of, sources_of, words_of};
 use crate::untold_disk::UntoldDisk;
 use cdc_base::{Memory, Text};
 use cdc_config::{Command, Refusal, command_of};
-use cdc_memory::{MemDisk, MemSink};
+use cdc_memory::{MemDisk, MemSink, MemSource};
 use cdc_top::{fits_to_run, top};
 use std::alloc::Global;
 use std::test::Fail;
@@ -51,29 +51,40 @@ fn print_nothing(alloc: Global, words: &[Text]) -> Result<bool, Memory>
     }
 }
 
-/// Calls `run c` over nodes with these logs, with `|` between them.
+/// Calls `run c` over nodes with these logs, with `|` between them, into two outs.
 pub fn run_over(
     alloc: Global,
     logs: &str,
     outs: &mut Vec<UntoldDisk>,
     task: &mut UntoldDisk,
 ) -> Result<Seen, Fail> {
-    let words = words_of(alloc, &["run", "c"])?;
     let mut nodes = sources_of(alloc, logs)?;
+    run_nodes(alloc, PLAN, &mut nodes, outs, task)
+}
+
+/// Calls `run c` with this configuration over these nodes, outs and task.
+pub fn run_nodes(
+    alloc: Global,
+    plan: &[u8],
+    nodes: &mut Vec<MemSource>,
+    outs: &mut Vec<UntoldDisk>,
+    task: &mut UntoldDisk,
+) -> Result<Seen, Fail> {
+    let words = words_of(alloc, &["run", "c"])?;
     if outs.len() > 4 || !print_nothing(alloc, words.as_slice())? {
         return Err("other words or outs")?;
     }
-    if !fits_to_run(alloc, PLAN, nodes.len(), outs.len())? {
+    if !fits_to_run(alloc, plan, nodes.len(), outs.len())? {
         return Err("other devices")?;
     }
-    let mut config = source_of(alloc, PLAN, &[])?;
+    let mut config = source_of(alloc, plan, &[])?;
     let mut out = MemSink::new(alloc, 1_000, &[])?;
     let mut err = MemSink::new(alloc, 400, &[])?;
     let status = top(
         alloc,
         words.as_slice(),
         &mut config,
-        &mut nodes,
+        nodes,
         outs,
         task,
         &mut out,

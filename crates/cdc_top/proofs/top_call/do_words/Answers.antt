@@ -1,11 +1,15 @@
-use Rattle.std.proofs.Common.{Some, ◌∙◌, ap, inl, inr}
+use Rattle.std.proofs.Common.{◌≡◌, ℕ, Bool, true, false, List, Option, Some, ◌∙◌, ap, inl, inr}
 use Rattle.cdc_cell.specs.Reading.{IsLeftAlone}
 use Rattle.cdc_cell.proofs.Alone.{alone_yet}
 use Rattle.cdc_config.specs.declared.command.Command.{Command}
+use Rattle.cdc_config.specs.declared.command.Command.TheVariants as command
+use Rattle.cdc_config.specs.Words.{command_from}
+use Rattle.cdc_drill.specs.Drill.{drill_run, IsDrillEnd}
 use Rattle.cdc_list.proofs.Zips.{zip_yet, later_yet}
 use Rattle.cdc_print.specs.Outcome.{run_seen}
 use Rattle.cdc_top.specs.Call.{call_seen, config_seen, outs_seen}
-use Rattle.cdc_top.specs.Words.{help_text, version_text}
+use Rattle.cdc_top.specs.Words.{IsNoPass, help_text, version_text}
+use Rattle.cdc_top.proofs.Drilled.{drill_in_bounds, same_drill}
 use Rattle.cdc_top.proofs.ListFindings.{list_findings, list_wrote}
 use Rattle.cdc_top.proofs.PrintFindings.{print_findings, print_wrote}
 use Rattle.cdc_top.proofs.TextFindings.{text_findings, help_wrote, version_wrote}
@@ -78,7 +82,7 @@ returns-in-Version-clause-wrote g c other =
     (rw c.version.ensures at c.write_text-in-Version.ensures.written)
 
 pub returns-in-Err-Memory-clause-outs_later : goal.returns-in-Err-Memory-clause-outs_later
-returns-in-Err-Memory-clause-outs_later g c other = later_yet g.D.Disk.faults c.args.outs.now.items
+returns-in-Err-Memory-clause-outs_later g c = later_yet g.D.Disk.faults c.args.outs.now.items
 
 pub returns-in-Err-Memory-clause-outs_alone : goal.returns-in-Err-Memory-clause-outs_alone
 returns-in-Err-Memory-clause-outs_alone g c other told =
@@ -86,7 +90,7 @@ returns-in-Err-Memory-clause-outs_alone g c other told =
     (alone_yet g.D.Disk.seen g.D.Disk.synced g.D.Disk.pending g.D.Disk.may_leave g.D.Disk.moment g.D.Disk.left_since (λ disk image left. g.met.D.Disk.only_now disk image told left)) c.args.outs.now.items
 
 pub returns-in-Err-Usage-clause-outs_later : goal.returns-in-Err-Usage-clause-outs_later
-returns-in-Err-Usage-clause-outs_later g c other = later_yet g.D.Disk.faults c.args.outs.now.items
+returns-in-Err-Usage-clause-outs_later g c = later_yet g.D.Disk.faults c.args.outs.now.items
 
 pub returns-in-Err-Usage-clause-outs_alone : goal.returns-in-Err-Usage-clause-outs_alone
 returns-in-Err-Usage-clause-outs_alone g c other told =
@@ -94,7 +98,7 @@ returns-in-Err-Usage-clause-outs_alone g c other told =
     (alone_yet g.D.Disk.seen g.D.Disk.synced g.D.Disk.pending g.D.Disk.may_leave g.D.Disk.moment g.D.Disk.left_since (λ disk image left. g.met.D.Disk.only_now disk image told left)) c.args.outs.now.items
 
 pub returns-in-Print-clause-outs_later : goal.returns-in-Print-clause-outs_later
-returns-in-Print-clause-outs_later g c other = later_yet g.D.Disk.faults c.args.outs.now.items
+returns-in-Print-clause-outs_later g c = later_yet g.D.Disk.faults c.args.outs.now.items
 
 pub returns-in-Print-clause-outs_alone : goal.returns-in-Print-clause-outs_alone
 returns-in-Print-clause-outs_alone g c other told =
@@ -102,7 +106,7 @@ returns-in-Print-clause-outs_alone g c other told =
     (alone_yet g.D.Disk.seen g.D.Disk.synced g.D.Disk.pending g.D.Disk.may_leave g.D.Disk.moment g.D.Disk.left_since (λ disk image left. g.met.D.Disk.only_now disk image told left)) c.args.outs.now.items
 
 pub returns-in-Help-clause-outs_later : goal.returns-in-Help-clause-outs_later
-returns-in-Help-clause-outs_later g c other = later_yet g.D.Disk.faults c.args.outs.now.items
+returns-in-Help-clause-outs_later g c = later_yet g.D.Disk.faults c.args.outs.now.items
 
 pub returns-in-Help-clause-outs_alone : goal.returns-in-Help-clause-outs_alone
 returns-in-Help-clause-outs_alone g c other told =
@@ -110,7 +114,7 @@ returns-in-Help-clause-outs_alone g c other told =
     (alone_yet g.D.Disk.seen g.D.Disk.synced g.D.Disk.pending g.D.Disk.may_leave g.D.Disk.moment g.D.Disk.left_since (λ disk image left. g.met.D.Disk.only_now disk image told left)) c.args.outs.now.items
 
 pub returns-in-Version-clause-outs_later : goal.returns-in-Version-clause-outs_later
-returns-in-Version-clause-outs_later g c other = later_yet g.D.Disk.faults c.args.outs.now.items
+returns-in-Version-clause-outs_later g c = later_yet g.D.Disk.faults c.args.outs.now.items
 
 pub returns-in-Version-clause-outs_alone : goal.returns-in-Version-clause-outs_alone
 returns-in-Version-clause-outs_alone g c other told =
@@ -118,7 +122,7 @@ returns-in-Version-clause-outs_alone g c other told =
     (alone_yet g.D.Disk.seen g.D.Disk.synced g.D.Disk.pending g.D.Disk.may_leave g.D.Disk.moment g.D.Disk.left_since (λ disk image left. g.met.D.Disk.only_now disk image told left)) c.args.outs.now.items
 
 pub returns-clause-outs_later : goal.returns-clause-outs_later
-returns-clause-outs_later g c other = later_yet g.D.Disk.faults c.args.outs.now.items
+returns-clause-outs_later g c = later_yet g.D.Disk.faults c.args.outs.now.items
 
 pub returns-clause-outs_alone : goal.returns-clause-outs_alone
 returns-clause-outs_alone g c other told =
@@ -126,9 +130,44 @@ returns-clause-outs_alone g c other told =
     (alone_yet g.D.Disk.seen g.D.Disk.synced g.D.Disk.pending g.D.Disk.may_leave g.D.Disk.moment g.D.Disk.left_since (λ disk image left. g.met.D.Disk.only_now disk image told left)) c.args.outs.now.items
 
 pub returns-then-threads-clause-outs_later : goal.returns-then-threads-clause-outs_later
-returns-then-threads-clause-outs_later g c other = later_yet g.D.Disk.faults c.args.outs.now.items
+returns-then-threads-clause-outs_later g c = later_yet g.D.Disk.faults c.args.outs.now.items
 
 pub returns-then-threads-clause-outs_alone : goal.returns-then-threads-clause-outs_alone
 returns-then-threads-clause-outs_alone g c other told =
     zip_yet (IsLeftAlone g.D.Disk.seen g.D.Disk.synced g.D.Disk.pending g.D.Disk.may_leave g.D.Disk.moment g.D.Disk.left_since)
     (alone_yet g.D.Disk.seen g.D.Disk.synced g.D.Disk.pending g.D.Disk.may_leave g.D.Disk.moment g.D.Disk.left_since (λ disk image left. g.met.D.Disk.only_now disk image told left)) c.args.outs.now.items
+
+pub returns-then-threads-2-clause-outs_later : goal.returns-then-threads-2-clause-outs_later
+returns-then-threads-2-clause-outs_later g c = later_yet g.D.Disk.faults c.args.outs.now.items
+
+pub returns-then-threads-2-clause-outs_alone : goal.returns-then-threads-2-clause-outs_alone
+returns-then-threads-2-clause-outs_alone g c other told =
+    zip_yet (IsLeftAlone g.D.Disk.seen g.D.Disk.synced g.D.Disk.pending g.D.Disk.may_leave g.D.Disk.moment g.D.Disk.left_since)
+    (alone_yet g.D.Disk.seen g.D.Disk.synced g.D.Disk.pending g.D.Disk.may_leave g.D.Disk.moment g.D.Disk.left_since (λ disk image left. g.met.D.Disk.only_now disk image told left)) c.args.outs.now.items
+
+pub returns-in-Drill-clause-outs_later : goal.returns-in-Drill-clause-outs_later
+returns-in-Drill-clause-outs_later g c = later_yet g.D.Disk.faults c.args.outs.now.items
+
+pub returns-in-Drill-clause-outs_alone : goal.returns-in-Drill-clause-outs_alone
+returns-in-Drill-clause-outs_alone g c other told =
+    zip_yet (IsLeftAlone g.D.Disk.seen g.D.Disk.synced g.D.Disk.pending g.D.Disk.may_leave g.D.Disk.moment g.D.Disk.left_since)
+    (alone_yet g.D.Disk.seen g.D.Disk.synced g.D.Disk.pending g.D.Disk.may_leave g.D.Disk.moment g.D.Disk.left_since (λ disk image left. g.met.D.Disk.only_now disk image told left)) c.args.outs.now.items
+
+-- a drill is no pass of the nodes
+no_findings : (words : List (List ℕ)) (s n k : ℕ) (order : Option ℕ) (threads : Bool) → IsNoPass words → command_from words ≡ Some (command.Drill s n k order threads) → threads ≡ false → ⊥
+no_findings words s n k order threads other is off = other.no_drill s n k (order, is ∙ ap (λ t. Some (command.Drill s n k order t)) off)
+
+pub returns-in-Drill-clause-findings : goal.returns-in-Drill-clause-findings
+returns-in-Drill-clause-findings g c other = absurd (no_findings _ _ _ _ _ _ other (c.in-Ok.ensures.command ∙ ap (λ (found : Command). Some found) c.in-Drill.is) c.if-threads-2.false)
+
+pub returns-in-Drill-clause-wrote : goal.returns-in-Drill-clause-wrote
+returns-in-Drill-clause-wrote g c other = absurd (no_findings _ _ _ _ _ _ other (c.in-Ok.ensures.command ∙ ap (λ (found : Command). Some found) c.in-Drill.is) c.if-threads-2.false)
+
+pub returns-in-Drill-clause-drilled : goal.returns-in-Drill-clause-drilled
+returns-in-Drill-clause-drilled g c seed nodes count is = (
+  c.drill.result,
+  same_drill c.args.words.now seed nodes count c.in-Drill.seed c.in-Drill.nodes c.in-Drill.count _ _ (c.in-Ok.ensures.command ∙ ap (λ (found : Command). Some found) c.in-Drill.is) is
+      (λ s n k. IsDrillEnd g.K.Sink.tells (drill_run s n k (g.K.Sink.written c.args.out.now) (g.K.Sink.written c.drill.new.out) (g.K.Sink.faults c.args.out.now) (g.K.Sink.faults c.drill.new.out)) c.drill.result)
+      c.drill.ensures.ended,
+  c.findings_of_drilled.ensures,
+)

@@ -1,9 +1,11 @@
-use Rattle.std.proofs.Common.{ap, subst, sym, ◌∙◌}
+use Rattle.std.proofs.Common.{◌≡◌, ap, subst, sym, ◌∙◌}
 use Rattle.cdc_dump_stage.specs.Disks.{disk_words}
 use Rattle.cdc_node_stage.specs.Job.{source_words}
 use Rattle.cdc_top.specs.Answers.{status_of, line_of, IsSaid}
 use Rattle.cdc_top.specs.declared.answer.Answer.{Answer}
+use Rattle.cdc_top.specs.Order.{answer_of, drill_answer}
 use Rattle.cdc_top.specs.Ran.{RunSays}
+use Rattle.cdc_top.proofs.Drilled.{drill_answered}
 use Rattle.cdc_top.proofs.Answered.{answered}
 use Rattle.cdc_top.proofs.RunFindings.{run_says}
 use Rattle.cdc_top.proofs.top_call.top.Goals as goal
@@ -34,3 +36,15 @@ returns-clause-ran g c run = (
   c.status.ensures,
   c.report.ensures.line,
 )
+
+pub returns-clause-drilled : goal.returns-clause-drilled
+returns-clause-drilled g c seed nodes count is =
+    let d = c.do_words-found.ensures.drilled seed nodes count is in
+    let answer : c.answer_of-answer.result ≡ drill_answer d.0 = c.answer_of-answer.ensures ∙ ap answer_of d.2 ∙ drill_answered d.0 in (
+      d.0,
+      d.1,
+      c.status.ensures ∙ ap status_of answer,
+      λ s. subst
+          (λ (a : Answer). IsSaid (g.K.Sink.written c.args.err.now) (line_of a) (g.K.Sink.written c.report.new.err) (g.K.Sink.faults c.args.err.now) (g.K.Sink.faults c.report.new.err))
+          answer (c.report.ensures.line s),
+    )
