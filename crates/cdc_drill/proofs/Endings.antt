@@ -1,6 +1,5 @@
 -- How a drill ends, by how its attempts and its writing ended.
-use Rattle.std.proofs.Common.{◌≡◌, Bool, List, ◌++◌, refl}
-use Rattle.cdc_model.specs.declared.node_log.NodeLog.{NodeLog}
+use Rattle.std.proofs.Common.{Bool, ◌++◌, refl}
 use Rattle.cdc_records.specs.declared.front.Front.{Front}
 use Rattle.cdc_list.specs.Lines.{out_line}
 use Rattle.cdc_drill.specs.Drill.{DrillRun, drill_line, drill_nodes, IsDone, IsDrillEnd}

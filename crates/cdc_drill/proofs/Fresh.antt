@@ -1,5 +1,5 @@
 -- Disks that have nothing, and a pass over them.
-use Rattle.std.proofs.Common.{◌≡◌, ◌≤◌, ◌+◌, ℕ, true, List, [], ◌∷◌, length, map, Option, None, refl, sym, subst, ap, ◌∙◌, arith}
+use Rattle.std.proofs.Common.{◌≡◌, ◌≤◌, ℕ, true, List, [], ◌∷◌, length, map, Option, None, refl, sym, subst, ap, ◌∙◌, arith}
 use Rattle.std.specs.List.{AllZip, AllByRecursion}
 use Rattle.cdc_outside.specs.declared.disk_file.DiskFile.{DiskFile}
 use Rattle.cdc_outside.specs.declared.disk_file.DiskFile.TheVariants.{Log}

@@ -1,6 +1,6 @@
 -- What a pass over disks that have nothing tells.
 use Rattle.std.proofs.Common.{◌≡◌, List, length, map, subst}
-use Rattle.std.specs.List.{AllZip, AllByRecursion}
+use Rattle.std.specs.List.{AllByRecursion}
 use Rattle.cdc_memory.specs.declared.mem_disk.MemDisk.{MemDisk}
 use Rattle.cdc_memory.specs.declared.source.PureSource.{PureSource}
 use Rattle.cdc_memory.specs.MemDisk.{held_by}

@@ -1,8 +1,8 @@
 -- How long the logs of a drill are.
-use Rattle.std.proofs.Common.{◌≡◌, ◌≤◌, ◌^◌, ◌+◌, ◌*◌, ◌/◌, ℕ, zero, suc, List, ◌++◌, length, map, length-append, ap, subst, sym, arith}
+use Rattle.std.proofs.Common.{◌≤◌, ◌^◌, ◌+◌, ◌/◌, ℕ, zero, suc, List, length, map, length-append, arith}
 use Rattle.std.specs.List.{range_with_len, flat_map, AllByRecursion}
 use Rattle.cdc_gen.specs.Head.{log_head}
-use Rattle.cdc_gen.specs.Logs.{drill_log, drill_logs, with_steps}
+use Rattle.cdc_gen.specs.Logs.{drill_log, drill_logs}
 use Rattle.cdc_gen.specs.Script.{block_steps, end_steps, drill_steps}
 use Rattle.cdc_gen.proofs.Steps.{blocks_few, ends_few}
 use Rattle.cdc_gen.proofs.Put.{log_length, head_length}

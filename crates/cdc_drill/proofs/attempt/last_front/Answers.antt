@@ -1,10 +1,8 @@
 -- What is so of each output is so of the last.
 use Rattle.std.proofs.Common.{List, length, subst}
 use Rattle.std.specs.List.{AllByRecursion}
-use Rattle.cdc_model.specs.Records.{Transaction}
-use Rattle.cdc_recovery.specs.Outputs.{OutputPlan, KeepsFrom}
+use Rattle.cdc_recovery.specs.Outputs.{KeepsFrom}
 use Rattle.cdc_recovery.specs.Growing.{Each}
-use Rattle.cdc_drill.specs.Attempts.{HasAll}
 use Rattle.cdc_drill.proofs.Finding.{all_last, some_weaker}
 use Rattle.cdc_drill.proofs.attempt.last_front.Goals as goal
 

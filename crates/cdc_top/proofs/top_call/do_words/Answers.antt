@@ -1,4 +1,4 @@
-use Rattle.std.proofs.Common.{◌≡◌, ℕ, Bool, true, false, List, Option, Some, ◌∙◌, ap, inl, inr}
+use Rattle.std.proofs.Common.{◌≡◌, ℕ, Bool, false, List, Option, Some, ◌∙◌, ap, inl, inr}
 use Rattle.cdc_cell.specs.Reading.{IsLeftAlone}
 use Rattle.cdc_cell.proofs.Alone.{alone_yet}
 use Rattle.cdc_config.specs.declared.command.Command.{Command}
@@ -9,7 +9,7 @@ use Rattle.cdc_list.proofs.Zips.{zip_yet, later_yet}
 use Rattle.cdc_print.specs.Outcome.{run_seen}
 use Rattle.cdc_top.specs.Call.{call_seen, config_seen, outs_seen}
 use Rattle.cdc_top.specs.Words.{IsNoPass, help_text, version_text}
-use Rattle.cdc_top.proofs.Drilled.{drill_in_bounds, same_drill}
+use Rattle.cdc_top.proofs.Drilled.{same_drill}
 use Rattle.cdc_top.proofs.ListFindings.{list_findings, list_wrote}
 use Rattle.cdc_top.proofs.PrintFindings.{print_findings, print_wrote}
 use Rattle.cdc_top.proofs.TextFindings.{text_findings, help_wrote, version_wrote}
