@@ -11,11 +11,11 @@ use Rattle.cdc_dumper.specs.Opening.{IsFound}
 use Rattle.cdc_recovery.specs.Laws.{ImageHasOneFront}
 use Rattle.cdc_recovery.specs.Outputs.{OutputPlan, KeepsFrom}
 use Rattle.cdc_recovery.specs.Growing.{Each}
-use Rattle.cdc_drill.specs.Attempts.{HasAll}
+use Rattle.cdc_drill.specs.Attempts.{TellsAll}
 
 -- where each image that may be left keeps all transactions, the Front of what is seen has them
 pub front_has_all : ImageHasOneFront → (plan : OutputPlan) (txns : List Transaction) (leaves : Image → Type 0) (seen : Image) (front : Front) → leaves seen → IsFound seen front
-    → Each leaves (KeepsFrom plan txns (length txns)) → HasAll plan txns front
+    → Each leaves (KeepsFrom plan txns (length txns)) → TellsAll plan txns front
 front_has_all law plan txns leaves seen front may found keeps =
     let kept = (keeps seen may).keeps in
     let reached = (keeps seen may).reached in

@@ -22,7 +22,7 @@ use Rattle.cdc_dump_stage.specs.Disks.{DiskWords, disk_words}
 use Rattle.cdc_node_stage.specs.Job.{SourceWords, source_words}
 use Rattle.cdc_headline.specs.Running.{IsPassOver}
 use Rattle.cdc_pass.specs.Starting.{IsClear}
-use Rattle.cdc_drill.specs.Attempts.{IsFresh}
+use Rattle.cdc_drill.specs.Attempts.{IsBlankDisk}
 
 -- the members of a source in memory, as one
 abbrev pub pure_words : SourceWords PureSource
@@ -39,7 +39,7 @@ no_bytes [] h = refl
 no_bytes (x ∷ bytes) h = absurd (omega (arith, h))
 
 -- a crash leaves nothing of it
-left_of_fresh : (disk : MemDisk) (image : Image) → IsFresh disk → LeavesNow (held_by disk) image → (file : DiskFile) → image file ≡ []
+left_of_fresh : (disk : MemDisk) (image : Image) → IsBlankDisk disk → LeavesNow (held_by disk) image → (file : DiskFile) → image file ≡ []
 left_of_fresh disk image fresh left file =
     let rest : MayLeave (start_of disk file) [] (image file) =
     subst (λ (steps : List DiskStep). MayLeave ((holding_of (start_of disk) steps).last_sync file) ((holding_of (start_of disk) steps).pending file) (image file)) fresh.untouched (left file) in
@@ -51,33 +51,33 @@ all_empty : (image : Image) → ((file : DiskFile) → image file ≡ []) → im
 all_empty image each = λ i file. each file i
 
 -- and a read finds nothing
-seen_of_fresh : (disk : MemDisk) → IsFresh disk → (file : DiskFile) → (held_by disk).seen file ≡ []
+seen_of_fresh : (disk : MemDisk) → IsBlankDisk disk → (file : DiskFile) → (held_by disk).seen file ≡ []
 seen_of_fresh disk fresh file = ap (λ (steps : List DiskStep). (holding_of (start_of disk) steps).seen file) fresh.untouched ∙ fresh.empty file
 
-pub fresh_are_clear : (disks : List MemDisk) → AllByRecursion IsFresh disks → AllByRecursion (λ (disk : MemDisk). IsClear ((held_by disk).seen)) disks
+pub fresh_are_clear : (disks : List MemDisk) → AllByRecursion IsBlankDisk disks → AllByRecursion (λ (disk : MemDisk). IsClear ((held_by disk).seen)) disks
 fresh_are_clear [] fresh = tt
 fresh_are_clear (disk ∷ disks) fresh = (λ front found other above. seen_of_fresh disk fresh.0 (Log other), fresh_are_clear disks fresh.1)
 
 -- such an output is recoverable
-keeps_nothing : NothingIsKept → (plan : OutputPlan) (txns : List Transaction) (disk : MemDisk) → IsFresh disk → Each (LeavesNow (held_by disk)) (KeepsFrom plan txns 0)
+keeps_nothing : NothingIsKept → (plan : OutputPlan) (txns : List Transaction) (disk : MemDisk) → IsBlankDisk disk → Each (LeavesNow (held_by disk)) (KeepsFrom plan txns 0)
 keeps_nothing law plan txns disk fresh image left = record {
   count = 0;
   reached = omega arith;
   keeps = subst (λ (at : Image). KeepsOut plan txns 0 at) (sym (all_empty image (left_of_fresh disk image fresh left))) (law plan txns);
 }
 
-outs_keep : NothingIsKept → (plan : OutputPlan) (txns : List Transaction) (disks : List MemDisk) → AllByRecursion IsFresh disks
+outs_keep : NothingIsKept → (plan : OutputPlan) (txns : List Transaction) (disks : List MemDisk) → AllByRecursion IsBlankDisk disks
     → AllByRecursion (λ (disk : MemDisk). Each (LeavesNow (held_by disk)) (KeepsFrom plan txns 0)) disks
 outs_keep law plan txns [] fresh = tt
 outs_keep law plan txns (disk ∷ disks) fresh = (keeps_nothing law plan txns disk fresh.0, outs_keep law plan txns disks fresh.1)
 
 -- and so is such a task
-task_keeps : NoTaskIsKept → (plan : OutputPlan) (logs : List NodeLog) (disk : MemDisk) → IsFresh disk
+task_keeps : NoTaskIsKept → (plan : OutputPlan) (logs : List NodeLog) (disk : MemDisk) → IsBlankDisk disk
     → Each (LeavesNow (held_by disk)) (λ (image : Image). (point : Option Checkpoint) × KeepsPoint plan logs point image)
 task_keeps law plan logs disk fresh image left = (None, subst (λ (at : Image). KeepsPoint plan logs None at) (sym (all_empty image (left_of_fresh disk image fresh left))) (law plan logs))
 
 -- so a pass may begin over them
 pub fresh_begins : NothingIsKept → NoTaskIsKept → (plan : OutputPlan) (logs : List NodeLog) (nodes : List PureSource) (outs : List MemDisk) (task : MemDisk)
-    → AllByRecursion IsFresh outs → IsFresh task → AllZip IsReadWhole (map pure_held_files nodes) logs → IsPassOver pure_words memory_words plan logs nodes outs task
+    → AllByRecursion IsBlankDisk outs → IsBlankDisk task → AllZip IsReadWhole (map pure_held_files nodes) logs → IsPassOver pure_words memory_words plan logs nodes outs task
 fresh_begins nothing none plan logs nodes outs task fresh_outs fresh_task whole =
     record { whole = whole; outs_kept = outs_keep nothing plan (planned_transactions plan logs) outs fresh_outs; task_kept = task_keeps none plan logs task fresh_task }

@@ -15,7 +15,7 @@ use Rattle.cdc_headline.specs.Ending.{IsPassEnd, PublishesAll}
 use Rattle.cdc_headline.specs.Headline.{Headline}
 use Rattle.cdc_headline.specs.Running.{IsPassOver}
 use Rattle.cdc_drill.specs.Drill.{drill_plan}
-use Rattle.cdc_drill.specs.Attempts.{IsFresh, ForLogsOf}
+use Rattle.cdc_drill.specs.Attempts.{IsBlankDisk, ForLogsOf}
 use Rattle.cdc_drill.proofs.Fresh.{pure_words, memory_words, fresh_begins}
 
 -- each image that some disks may leave keeps all transactions of these logs
@@ -28,7 +28,7 @@ pub record HasTold (logs : List NodeLog) (nodes : List PureSource) (outs_now : L
   pub keeps : PublishesAll outcome → KeepAllOf logs outs_now
 
 pub has_told : (plan : OutputPlan) (nodes nodes_now : List PureSource) (outs outs_now : List MemDisk) (task task_now : MemDisk) (outcome : Outcome) → NothingIsKept → NoTaskIsKept → plan ≡ drill_plan
-    → AllByRecursion IsFresh outs → IsFresh task
+    → AllByRecursion IsBlankDisk outs → IsBlankDisk task
     → ((logs : List NodeLog) → IsPassOver pure_words memory_words plan logs nodes outs task → Headline pure_words memory_words plan logs nodes nodes_now outs outs_now task task_now outcome)
     → ForLogsOf (map pure_held_files nodes) (λ logs. HasTold logs nodes outs_now outcome)
 has_told plan nodes nodes_now outs outs_now task task_now outcome nothing none same fresh_outs fresh_task headline logs whole =

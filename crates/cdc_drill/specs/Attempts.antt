@@ -22,27 +22,27 @@ use Rattle.cdc_drill.specs.declared.drill_end.DrillEnd.TheVariants as told
 use Rattle.cdc_drill.specs.declared.attempt.Attempt.{Attempt}
 use Rattle.cdc_drill.specs.declared.attempt.Attempt.TheVariants.{Found, TooLarge, Node, TooSmall, Memory}
 
--- a log whose bytes can be counted without an end in sight
-abbrev pub IsShort : List ℕ → Type 0
-IsShort log = length log ≤ 2 ^ 40
+-- a log of at most 2^40 bytes
+abbrev pub IsShortLog : List ℕ → Type 0
+IsShortLog log = length log ≤ 2 ^ 40
 
 -- logs as nodes of one file each
 abbrev pub one_file_each : List (List ℕ) → List (List (List ℕ))
 one_file_each logs = map (λ (log : List ℕ). log ∷ []) logs
 
 -- a disk that has nothing, and that nothing was done to
-pub record IsFresh (disk : MemDisk) : Type 0 where
+pub record IsBlankDisk (disk : MemDisk) : Type 0 where
   pub empty : (file : DiskFile) → start_of disk file ≡ []
   pub untouched : steps_of disk ≡ []
 
 -- a Front tells all of these transactions
-pub record HasAll (plan : OutputPlan) (txns : List Transaction) (front : Front) : Type 0 where
+pub record TellsAll (plan : OutputPlan) (txns : List Transaction) (front : Front) : Type 0 where
   pub counted : front.count ≡ length txns
   pub layout : front_layout front ≡ layout_of plan.rules plan.rotation txns
 
 -- the Front tells all settled transactions of these logs
-abbrev pub HasAllOf : List NodeLog → Front → Type 0
-HasAllOf logs front = HasAll drill_plan (planned_transactions drill_plan logs) front
+abbrev pub TellsAllOf : List NodeLog → Front → Type 0
+TellsAllOf logs front = TellsAll drill_plan (planned_transactions drill_plan logs) front
 
 -- whatever logs the bytes of these nodes are
 abbrev pub ForLogsOf : List (List (List ℕ)) → (List NodeLog → Type 0) → Type 0
@@ -50,15 +50,15 @@ ForLogsOf nodes P = (logs : List NodeLog) → AllZip IsReadWhole nodes logs → 
 
 -- how an attempt over these nodes ended, and why
 abbrev pub IsAttempt : List (List (List ℕ)) → Attempt → Type 0
-IsAttempt nodes (Found front) = ForLogsOf nodes (λ logs. IsPassEnd drill_plan logs nodes pass.Done × HasAllOf logs front)
+IsAttempt nodes (Found front) = ForLogsOf nodes (λ logs. IsPassEnd drill_plan logs nodes pass.Done × TellsAllOf logs front)
 IsAttempt nodes (TooLarge number bytes) = ForLogsOf nodes (λ logs. IsPassEnd drill_plan logs nodes (pass.TooLarge number bytes))
 IsAttempt nodes (Node node place fault) = ForLogsOf nodes (λ logs. IsPassEnd drill_plan logs nodes (pass.Node node place fault))
 IsAttempt nodes TooSmall = Unit {0}
 IsAttempt nodes Memory = Unit {0}
 
 -- the line of these numbers
-abbrev pub line_of : ℕ → ℕ → ℕ → List ℕ
-line_of seed nodes count = codes "drill " ++ (decimal seed ++ (codes " " ++ (decimal nodes ++ (codes " " ++ (decimal count ++ codes "\n")))))
+abbrev pub numbers_line : ℕ → ℕ → ℕ → List ℕ
+numbers_line seed nodes count = codes "drill " ++ (decimal seed ++ (codes " " ++ (decimal nodes ++ (codes " " ++ (decimal count ++ codes "\n")))))
 
 -- how the writing of a drill's text ended, whose output has this Front
 abbrev pub WritesText : Bool → DrillRun → Front → DrillEnd → Type 0

@@ -8,7 +8,7 @@ ghost use Rattle.cdc_recovery.specs.Outputs.{OutputPlan, KeepsFrom};
 ghost use Rattle.cdc_recovery.specs.Growing.{Each};
 ghost use Rattle.cdc_pass.specs.Starting.{output_plan};
 ghost use Rattle.cdc_drill.specs.Drill.{drill_plan};
-ghost use Rattle.cdc_drill.specs.Attempts.{HasAll, IsFresh, IsShort, IsAttempt, one_file_each};
+ghost use Rattle.cdc_drill.specs.Attempts.{TellsAll, IsBlankDisk, IsShortLog, IsAttempt, one_file_each};
 
 use crate::devices::devices_of;
 use crate::sizes::Sizes;
@@ -52,7 +52,7 @@ pub(crate) enum Attempt {
 
 /// The Front of an output, where its disk gives it.
 fn front_of<D: Disk>(disk: &mut D) -> Option<Front>
-    ensures { IsTrue D.tells → IfSome result (λ front. (plan : OutputPlan) (txns : List Transaction) → Each (D.may_leave disk.old) (KeepsFrom plan txns (length txns)) → HasAll plan txns front) }
+    ensures { IsTrue D.tells → IfSome result (λ front. (plan : OutputPlan) (txns : List Transaction) → Each (D.may_leave disk.old) (KeepsFrom plan txns (length txns)) → TellsAll plan txns front) }
 {
     image_has_one_front();
     match look(disk) {
@@ -63,7 +63,7 @@ fn front_of<D: Disk>(disk: &mut D) -> Option<Front>
 
 /// The Front of the last of some outputs.
 fn last_front<D: Disk>(outs: &mut Vec<D>) -> Option<Front>
-    ensures { IsTrue D.tells → IfSome result (λ front. (plan : OutputPlan) (txns : List Transaction) → AllByRecursion (λ disk. Each (D.may_leave disk) (KeepsFrom plan txns (length txns))) outs.old.items → HasAll plan txns front) }
+    ensures { IsTrue D.tells → IfSome result (λ front. (plan : OutputPlan) (txns : List Transaction) → AllByRecursion (λ disk. Each (D.may_leave disk) (KeepsFrom plan txns (length txns))) outs.old.items → TellsAll plan txns front) }
 {
     match outs.pop() {
         Some(mut disk) => front_of(&mut disk),
@@ -83,8 +83,8 @@ fn pass_over(
     requires many_nodes { length nodes.old.items ≡ plan.now.nodes }
     requires many_outs { length outs.old.items ≡ plan.now.outs }
     requires output { output_plan plan.now ≡ drill_plan }
-    requires fresh_outs { AllByRecursion IsFresh outs.old.items }
-    requires fresh_task { IsFresh task.old }
+    requires fresh_outs { AllByRecursion IsBlankDisk outs.old.items }
+    requires fresh_task { IsBlankDisk task.old }
     ensures { IsAttempt (map pure_held_files nodes.old.items) result }
 {
     nothing_is_kept();
@@ -111,7 +111,7 @@ fn pass_over(
 
 /// One attempt, over fresh disks of these sizes.
 fn try_sizes(alloc: Global, plan: &Plan, logs: &LogList, turns: &[u32], sizes: &Sizes) -> Attempt
-    requires short { AllByRecursion IsShort logs.now }
+    requires short { AllByRecursion IsShortLog logs.now }
     requires nodes { length logs.now ≡ plan.now.nodes }
     requires outs { plan.now.outs ≡ 1 }
     requires output { output_plan plan.now ≡ drill_plan }
@@ -139,7 +139,7 @@ pub(crate) fn attempts(
     turns: &[u32],
     first: Sizes,
 ) -> Attempt
-    requires short { AllByRecursion IsShort logs.now }
+    requires short { AllByRecursion IsShortLog logs.now }
     requires nodes { length logs.now ≡ plan.now.nodes }
     requires outs { plan.now.outs ≡ 1 }
     requires output { output_plan plan.now ≡ drill_plan }

@@ -4,7 +4,7 @@ ghost use Rattle.std.specs.Prelude.{◌≡◌, ◌≤◌, ◌^◌, ℕ, List, []
 ghost use Rattle.std.specs.List.{AllByRecursion};
 ghost use Rattle.cdc_memory.specs.MemDisk.{start_of, steps_of};
 ghost use Rattle.cdc_memory.specs.Source.{pure_held_files};
-ghost use Rattle.cdc_drill.specs.Attempts.{IsFresh, IsShort, one_file_each};
+ghost use Rattle.cdc_drill.specs.Attempts.{IsBlankDisk, IsShortLog, one_file_each};
 
 use crate::sizes::Sizes;
 use cdc_base::{Blob, Memory};
@@ -14,7 +14,7 @@ use std::alloc::Global;
 
 /// A source of one file, its bytes shared.
 fn source_of(alloc: Global, log: &Blob) -> Result<PureSource, Memory>
-    requires { IsShort log.now }
+    requires { IsShortLog log.now }
     ensures { IfOk result (λ source. pure_held_files source ≡ log.now ∷ []) }
 {
     PureSource::new(alloc, &[log.share()?])
@@ -22,7 +22,7 @@ fn source_of(alloc: Global, log: &Blob) -> Result<PureSource, Memory>
 
 /// A source a node, of one log file each.
 fn sources_of(alloc: Global, logs: &[Blob]) -> Result<Vec<PureSource>, Memory>
-    requires { AllByRecursion IsShort logs.now }
+    requires { AllByRecursion IsShortLog logs.now }
     ensures { IfOk result (λ sources. map pure_held_files sources.items ≡ one_file_each logs.now) }
 {
     let mut sources = Vec::with_capacity(alloc, logs.len())?;
@@ -34,7 +34,7 @@ fn sources_of(alloc: Global, logs: &[Blob]) -> Result<Vec<PureSource>, Memory>
 
 /// A disk that has nothing, with room for so many log files of so many bytes, and for so many changes.
 fn fresh_disk(alloc: Global, files: u64, room: usize, changes: usize) -> Result<MemDisk, Memory>
-    ensures { IfOk result IsFresh }
+    ensures { IfOk result IsBlankDisk }
 {
     MemDisk::new(alloc, files, room, changes, &[])
 }
@@ -51,7 +51,7 @@ pub(crate) struct Devices {
 
 /// One output that has nothing.
 fn one_out(alloc: Global, sizes: &Sizes) -> Result<Vec<MemDisk>, Memory>
-    ensures fresh { IfOk result (λ outs. AllByRecursion IsFresh outs.items) }
+    ensures fresh { IfOk result (λ outs. AllByRecursion IsBlankDisk outs.items) }
     ensures one { IfOk result (λ outs. length outs.items ≡ 1) }
 {
     let mut outs = Vec::new(alloc);
@@ -61,11 +61,11 @@ fn one_out(alloc: Global, sizes: &Sizes) -> Result<Vec<MemDisk>, Memory>
 
 /// A source a node, an output and a task that have nothing.
 pub(crate) fn devices_of(alloc: Global, logs: &LogList, sizes: &Sizes) -> Result<Devices, Memory>
-    requires { AllByRecursion IsShort logs.now }
+    requires { AllByRecursion IsShortLog logs.now }
     ensures held { IfOk result (λ devices. map pure_held_files devices.nodes.items ≡ one_file_each logs.now) }
-    ensures fresh { IfOk result (λ devices. AllByRecursion IsFresh devices.outs.items) }
+    ensures fresh { IfOk result (λ devices. AllByRecursion IsBlankDisk devices.outs.items) }
     ensures one { IfOk result (λ devices. length devices.outs.items ≡ 1) }
-    ensures task { IfOk result (λ devices. IsFresh devices.task) }
+    ensures task { IfOk result (λ devices. IsBlankDisk devices.task) }
 {
     Ok(Devices {
         nodes: sources_of(alloc, logs.as_slice())?,

@@ -3,7 +3,7 @@
 ghost use Rattle.std.specs.Prelude.{◌≡◌, ◌≤◌, length};
 ghost use Rattle.std.specs.List.{AllByRecursion};
 ghost use Rattle.cdc_drill.specs.Drill.{drill_nodes, drill_run, IsDrillEnd};
-ghost use Rattle.cdc_drill.specs.Attempts.{IsAttempt, IsShort, one_file_each};
+ghost use Rattle.cdc_drill.specs.Attempts.{IsAttempt, IsShortLog, one_file_each};
 
 use crate::attempt::{Attempt, attempts};
 use crate::drill_end::DrillEnd;
@@ -33,7 +33,7 @@ fn pass_over_logs(
 ) -> Attempt
     requires some { 1 ≤ nodes }
     requires many { nodes ≤ 256 }
-    requires short { AllByRecursion IsShort logs.now }
+    requires short { AllByRecursion IsShortLog logs.now }
     requires each { length logs.now ≡ nodes }
     ensures { IsAttempt (one_file_each logs.now) result }
 {

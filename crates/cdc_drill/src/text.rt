@@ -3,7 +3,7 @@
 ghost use Rattle.std.specs.Prelude.{◌≡◌, ◌++◌, ◌≤◌, string_bytes, IfOk};
 ghost use Rattle.cdc_list.specs.Lines as lines;
 ghost use Rattle.cdc_drill.specs.Drill.{drill_run};
-ghost use Rattle.cdc_drill.specs.Attempts.{line_of, WritesText};
+ghost use Rattle.cdc_drill.specs.Attempts.{numbers_line, WritesText};
 
 use crate::drill_end::DrillEnd;
 use cdc_base::{Buffer, Memory};
@@ -14,7 +14,7 @@ use std::alloc::Global;
 
 /// The line of a drill: its numbers.
 fn drill_line(alloc: Global, seed: u64, nodes: u32, count: u32) -> Result<String, Memory>
-    ensures { IfOk result (λ line. string_bytes line ≡ line_of seed nodes count) }
+    ensures { IfOk result (λ line. string_bytes line ≡ numbers_line seed nodes count) }
 {
     Ok(format!(in alloc; "drill {seed} {nodes} {count}\n")?)
 }
@@ -27,7 +27,7 @@ fn drill_text(
     count: u32,
     front: &Front,
 ) -> Result<Buffer, Memory>
-    ensures { IfOk result (λ text. text ≡ line_of seed nodes count ++ lines.out_line 1 front.now) }
+    ensures { IfOk result (λ text. text ≡ numbers_line seed nodes count ++ lines.out_line 1 front.now) }
 {
     let line = drill_line(alloc, seed, nodes, count)?;
     let mut text = Buffer::new(alloc);
