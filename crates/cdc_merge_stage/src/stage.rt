@@ -28,7 +28,7 @@ use std::marker::Model;
 use std::sync::ledger::Ledger;
 
 /// The merge stage: what it makes units of; where it began, and where it stands behind the last unit; which nodes' Ends have come, and the bounds that they told last;
-/// the least of these bounds when it last made all that was settled under it; what waits for each output's lane; whether the Ends are
+/// the least of these bounds when it last made all that was settled under it, and how many were told since; what waits for each output's lane; whether the Ends are
 /// given; and how it ended.
 #[derive(Drop)]
 pub struct MergeStage<'a, L: Ledger> {
@@ -38,6 +38,7 @@ pub struct MergeStage<'a, L: Ledger> {
     took: Vec<bool>,
     bounds: Vec<u64>,
     made_under: Option<u64>,
+    told: u32,
     slots: Vec<Option<DumpItem>>,
     closing: bool,
     end: MergeEnd,
@@ -52,6 +53,9 @@ impl<'a, L: Ledger> Model for MergeStage<'a, L> {
 
     ghost invariant = { λ s. IsKeptStage (record { maker = s.maker; start = s.start; behind = s.behind; took = s.took.items; slots = s.slots.items; closing = s.closing; end = s.end }) s.bounds.items };
 }
+
+/// How many bounds are taken before units are made again: each making looks at all nodes.
+const BOUNDS_AT_ONCE: u32 = 16;
 
 /// What came of a try to make a unit.
 #[derive(Clone, Copy, Debug, PartialEq, Eq)]
@@ -91,6 +95,7 @@ impl<'a, L: Ledger> MergeStage<'a, L> {
             took: no_ends(alloc, nodes)?,
             bounds: no_bounds(alloc, nodes)?,
             made_under: None,
+            told: 0,
             slots: no_items(alloc, outs)?,
             closing: false,
             end: MergeEnd::Open,
@@ -153,6 +158,7 @@ impl<'a, L: Ledger> MergeStage<'a, L> {
         ensures { HasAccepted self.old node (NodeItem.Bound bound) self.new }
     {
         self.bounds[node] = bound;
+        self.told = self.told.saturating_add(1);
         if self.end.is_open() {
             self.maker.bound(node as u32 + 1, bound);
         }
@@ -261,20 +267,21 @@ impl<'a, L: Ledger> MergeStage<'a, L> {
     fn note_bound(&mut self)
         ensures { self.new ≡ self.old }
     {
+        self.told = 0;
         self.made_under = match lagging(&self.took, &self.bounds) {
             Some(node) => Some(self.bounds[node]),
             None => None,
         };
     }
 
-    // The node whose bound is the least, where all was made under that bound; then no branch that comes is settled before it rises.
+    // The node whose bound is the least, where all was made under that bound, so that no branch that comes is settled before it rises,
+    // or where too few bounds were told since to begin the making anew. All that is settled is made before the Ends are given.
     fn still_lagging(&self) -> Option<usize>
         ensures { IfSome result (λ node. (node < length self.now.took) × (get_or self.now.took node true ≡ false)) }
     {
-        match (self.made_under, lagging(&self.took, &self.bounds)) {
-            (Some(bound), Some(node)) if self.bounds[node] == bound => Some(node),
-            _ => None,
-        }
+        let (bound, node) = (self.made_under?, lagging(&self.took, &self.bounds)?);
+        let asks = self.told < BOUNDS_AT_ONCE || self.bounds[node] == bound;
+        if asks { Some(node) } else { None }
     }
 
     // Gives an End to each output, once all is taken and given.
