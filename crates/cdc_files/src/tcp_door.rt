@@ -3,7 +3,7 @@
 ghost use Rattle.std.specs.Prelude.{◌≡◌, Bool, false, []};
 
 use crate::counted::counted;
-use crate::tcp_link::TcpLink;
+use crate::tcp_link::{TcpLink, finish};
 use cdc_base::Text;
 use cdc_outside::{Door, Failed};
 use std::io;
@@ -133,6 +133,7 @@ impl Door for TcpDoor {
     }
 
     fn back(&mut self, link: TcpLink, end: u8) {
-        let _ = (link, end);
+        let _ = end;
+        finish(link);
     }
 }

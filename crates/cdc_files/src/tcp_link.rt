@@ -5,11 +5,17 @@ ghost use Rattle.std.specs.Prelude.{◌≡◌, false, []};
 use crate::counted::counted;
 use cdc_outside::{Failed, Link};
 use std::io::{Read, Write};
-use std::net::TcpStream;
+use std::net::{Shutdown, TcpStream};
 use std::time::Duration;
 
 /// How many seconds a read or a write waits for the client.
 const PATIENCE_SECONDS: u64 = 60;
+
+/// How many seconds the end of a connection waits for what the client still sends.
+const LINGER_SECONDS: u64 = 5;
+
+/// How many pieces of what a client sends behind its end are read and let go.
+const MOST_LEFT_PIECES: u32 = 1_024;
 
 /// A connection to one client. It sends small writes at once, and a read or write for which the client lets it wait
 /// longer than 60 seconds fails. Where the system refuses such a limit, each call fails.
@@ -40,6 +46,24 @@ impl TcpLink {
         ensures { result ≡ ⟦<TcpLink as Link>⟧.faults self.now }
     {
         self.faults
+    }
+}
+
+/// Ends a connection behind what was written. A connection that is closed while bytes of the client wait unread is reset, and the
+/// client loses what it hasn't read yet; so these are read and let go first, up to 4 MiB of them, as long as they come within
+/// five seconds each.
+pub(crate) fn finish(link: TcpLink) {
+    let mut stream = link.stream;
+    let patience = Some(Duration::from_secs(LINGER_SECONDS));
+    if stream.shutdown(Shutdown::Write).is_err() || stream.set_read_timeout(patience).is_err() {
+        return;
+    }
+    let mut piece = [0; 4_096];
+    for _ in 0..MOST_LEFT_PIECES {
+        match stream.read(&mut piece) {
+            Ok(0) | Err(_) => return,
+            Ok(_) => {}
+        }
     }
 }
 

@@ -4,6 +4,7 @@ use crate::made::{DUMP, PING, QUIT, WELL, output};
 use cdc_base::{Text, UserList};
 use cdc_files::TcpDoor;
 use cdc_memory::{MemDisk, MemSalt};
+use cdc_outside::{Door, Link};
 use cdc_server::{ServeEnd, serve_all};
 use sha1::Sha1;
 use std::alloc::Global;
@@ -192,5 +193,50 @@ fn an_address_that_is_taken_fails_its_door_alone(rt: HostRuntime) -> Result<(), 
         fetched.as_str() == "311 34c356db192b7c89532455a2f19ade4ab23eab63",
         "{fetched}"
     );
+    Ok(())
+}
+
+/// How many bytes a server sends that reads nothing.
+const UNREAD: usize = 300_000;
+
+// Takes one link, writes to it, and hands it back without having read from it; whether that could be done.
+fn write_unread(alloc: Global, door: &mut TcpDoor) -> bool {
+    let Ok(bytes) = vec![in alloc; 7u8; UNREAD] else {
+        return false;
+    };
+    let Ok(Some(mut link)) = door.next() else {
+        return false;
+    };
+    let written = link.write(bytes.as_slice()).is_ok();
+    door.back(link, 1);
+    written
+}
+
+// Sends what nobody reads, and counts what came in until the connection ended.
+fn send_and_count<R: Net<Listener = TcpListener, Stream = TcpStream>>(
+    rt: &R,
+    alloc: Global,
+    address: &str,
+) -> Option<usize> {
+    let mut stream = connect(rt, address)?;
+    send(alloc, &stream, PING)?;
+    send(alloc, &stream, PING)?;
+    let mut bytes = Vec::new(alloc);
+    stream.read_to_end(&mut bytes).ok()
+}
+
+/// A connection that is closed over unread bytes is reset, and what the client hasn't read is lost.
+#[test]
+fn a_client_gets_all_though_it_sent_more_than_was_read(rt: HostRuntime) -> Result<(), Fail> {
+    let alloc = rt.alloc();
+    let address = free_address(&rt, alloc)?;
+    let mut door = door_at(&rt, alloc, address.as_str())?;
+    let (written, count) = thread::join(
+        &rt,
+        || write_unread(alloc, &mut door),
+        || send_and_count(&rt, alloc, address.as_str()),
+    );
+    assert!(&rt; written);
+    assert_eq!(&rt; count, Some(UNREAD));
     Ok(())
 }
