@@ -15,7 +15,7 @@ const PATIENCE_SECONDS: u64 = 60;
 const LINGER_SECONDS: u64 = 5;
 
 /// How many pieces of what a client sends behind its end are read and let go.
-const MOST_LEFT_PIECES: u32 = 1_024;
+const MOST_LEFT_PIECES: u32 = 64;
 
 /// A connection to one client. It sends small writes at once, and a read or write for which the client lets it wait
 /// longer than 60 seconds fails. Where the system refuses such a limit, each call fails.
@@ -50,15 +50,15 @@ impl TcpLink {
 }
 
 /// Ends a connection behind what was written. A connection that is closed while bytes of the client wait unread is reset, and the
-/// client loses what it hasn't read yet; so these are read and let go first, up to 4 MiB of them, as long as they come within
-/// five seconds each.
+/// client loses what it hasn't read yet; so these are read and let go first, in at most 64 pieces of 16 KiB, as long as
+/// each comes within five seconds.
 pub(crate) fn finish(link: TcpLink) {
     let mut stream = link.stream;
     let patience = Some(Duration::from_secs(LINGER_SECONDS));
     if stream.shutdown(Shutdown::Write).is_err() || stream.set_read_timeout(patience).is_err() {
         return;
     }
-    let mut piece = [0; 4_096];
+    let mut piece = [0; 16_384];
     for _ in 0..MOST_LEFT_PIECES {
         match stream.read(&mut piece) {
             Ok(0) | Err(_) => return,
