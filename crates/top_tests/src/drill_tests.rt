@@ -55,8 +55,14 @@ fn call_drill(alloc: Global, texts: &[&str], fails: &[u64]) -> Result<Seen, Fail
 fn drills_write_their_lines(rt: HostRuntime) -> Result<(), Fail> {
     let cases: [(&[&str], &[u8]); 3] = [
         (&["drill", "1", "1", "0"], b"drill 1 1 0\nout 1 - 0 0\n"),
-        (&["drill", "1", "1", "1"], b"drill 1 1 1\nout 1 binlog.000001 328 1\n"),
-        (&["drill", "1", "1", "1", "--order", "5"], b"drill 1 1 1\nout 1 binlog.000001 328 1\n"),
+        (
+            &["drill", "1", "1", "1"],
+            b"drill 1 1 1\nout 1 binlog.000001 328 1\n",
+        ),
+        (
+            &["drill", "1", "1", "1", "--order", "5"],
+            b"drill 1 1 1\nout 1 binlog.000001 328 1\n",
+        ),
     ];
     for (number, (texts, text)) in cases.iter().enumerate() {
         let seen = call_drill(rt.alloc(), texts, &[])?;

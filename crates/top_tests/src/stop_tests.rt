@@ -157,7 +157,9 @@ fn a_pass_goes_on_behind_each_stop_of_each_disk(rt: HostRuntime) -> Result<(), F
 fn fail_once(alloc: Global, which: usize, call: u64) -> Result<bool, Fail> {
     let mut disks = disks_failing(alloc, which, &[call])?;
     let (status, lines) = pass(alloc, &[], &mut disks)?;
-    let ended = disks.get(which).is_some_and(|disk| disk.disk.fault_count() == 0);
+    let ended = disks
+        .get(which)
+        .is_some_and(|disk| disk.disk.fault_count() == 0);
     let wanted = if ended { (0, true) } else { (5, false) };
     if (status, lines) != wanted || !goes_on(alloc, &disks)? {
         return Err("another answer, or something is lost or doubled")?;
@@ -165,14 +167,21 @@ fn fail_once(alloc: Global, which: usize, call: u64) -> Result<bool, Fail> {
     Ok(ended)
 }
 
+/// How many calls of a disk a pass makes before none fails.
+fn failures_of(alloc: Global, which: usize) -> Result<u64, Fail> {
+    for call in 1..CALLS {
+        if fail_once(alloc, which, call)? {
+            return Ok(call - 1);
+        }
+    }
+    Err("no end")?
+}
+
 #[test]
 fn a_pass_goes_on_behind_each_failure_of_each_disk(rt: HostRuntime) -> Result<(), Fail> {
     for which in 0..3_usize {
-        let mut call = 1;
-        while call < CALLS && !fail_once(rt.alloc(), which, call)? {
-            call += 1;
-        }
-        assert!(rt; call > 10 && call < CALLS, "disk {which}");
+        let failures = failures_of(rt.alloc(), which)?;
+        assert!(rt; failures > 10, "disk {which}");
     }
     Ok(())
 }
@@ -191,12 +200,19 @@ fn fail_source(alloc: Global, call: u64) -> Result<bool, Fail> {
     }
 }
 
+/// How many calls of the source a pass makes before none fails.
+fn source_failures(alloc: Global) -> Result<u64, Fail> {
+    for call in 1..CALLS {
+        if fail_source(alloc, call)? {
+            return Ok(call - 1);
+        }
+    }
+    Err("no end")?
+}
+
 #[test]
 fn a_pass_goes_on_behind_each_failure_of_its_source(rt: HostRuntime) -> Result<(), Fail> {
-    let mut call = 1;
-    while call < CALLS && !fail_source(rt.alloc(), call)? {
-        call += 1;
-    }
-    assert!(rt; call > 3 && call < CALLS, "{call} calls");
+    let failures = source_failures(rt.alloc())?;
+    assert!(rt; failures > 2, "{failures} calls");
     Ok(())
 }
