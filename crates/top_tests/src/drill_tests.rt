@@ -12,6 +12,9 @@ use cdc_top::top;
 use std::alloc::Global;
 use std::test::Fail;
 
+/// What a drill of 10,000 transactions on four nodes writes: three files, and a hundred transactions on one node besides.
+const TEN_THOUSAND: &[u8] = b"drill 7 4 10000\nout 1 binlog.000003 724167 10100\n";
+
 // Whether words are neither `print` nor `run` without threads.
 fn asks_no_device(alloc: Global, words: &[Text]) -> Result<bool, Memory>
     ensures print { IfOk result (λ none. IsTrue none → (files : List (List ℕ)) → command_from words.now ≡ Some (Command.Print files) → ⊥) }
@@ -53,7 +56,7 @@ fn call_drill(alloc: Global, texts: &[&str], fails: &[u64]) -> Result<Seen, Fail
 
 #[test]
 fn drills_write_their_lines(rt: HostRuntime) -> Result<(), Fail> {
-    let cases: [(&[&str], &[u8]); 3] = [
+    let cases: [(&[&str], &[u8]); 5] = [
         (&["drill", "1", "1", "0"], b"drill 1 1 0\nout 1 - 0 0\n"),
         (
             &["drill", "1", "1", "1"],
@@ -63,6 +66,8 @@ fn drills_write_their_lines(rt: HostRuntime) -> Result<(), Fail> {
             &["drill", "1", "1", "1", "--order", "5"],
             b"drill 1 1 1\nout 1 binlog.000001 328 1\n",
         ),
+        (&["drill", "7", "4", "10000"], TEN_THOUSAND),
+        (&["drill", "7", "4", "10000", "--order", "5"], TEN_THOUSAND),
     ];
     for (number, (texts, text)) in cases.iter().enumerate() {
         let seen = call_drill(rt.alloc(), texts, &[])?;

@@ -20,6 +20,13 @@ const TABLE: &[u8] = b"\x01\0\0\0\0\0\x01\0\x02d1\0\x02t1\0\x01\x03\0\x01";
 
 const SIGNED_TABLE: &[u8] = b"\x01\0\0\0\0\0\x01\0\x02d1\0\x02t1\0\x01\x03\0\x01\x01\x01\0";
 
+/// The body of the table map under the name shop.orders.
+const NAMED_TABLE: &[u8] = b"\x01\0\0\0\0\0\x01\0\x04shop\0\x06orders\0\x01\x03\0\x01";
+
+/// The ROTATE event that closes file 1 at 359 bytes, and names file 2.
+const ROTATE: &[u8] =
+    b"\0\0\0\0\x04\x01\0\0\0\x28\0\0\0\x8f\x01\0\0\0\0\x04\0\0\0\0\0\0\0binlog.000002";
+
 /// The body of a row event of the value 1.
 const ROW: &[u8] = b"\x01\0\0\0\0\0\x01\0\x02\0\x01\xff\0\x01\0\0\0";
 
@@ -94,10 +101,15 @@ fn local_mark_of(alloc: Global, key: &str) -> Result<String, Fail> {
     Ok(format!(in alloc; "CTS::{timestamp:019}::1::{node:05}{entry:020}")?)
 }
 
-// The rows behind a key: a table map and a row event for each `+`, with a column's sign for each `*`.
+// The rows behind a key: a table map and a row event for each `+`, with a column's sign for each `*`, under another name for
+// each `%`.
 fn push_rows(file: &mut Buffer, signs: &str) -> Result<(), Memory> {
     for sign in signs.bytes() {
-        let table = if sign == b'*' { SIGNED_TABLE } else { TABLE };
+        let table = match sign {
+            b'*' => SIGNED_TABLE,
+            b'%' => NAMED_TABLE,
+            _ => TABLE,
+        };
         push_event(file, 19, table)?;
         push_event(file, 30, ROW)?;
     }
@@ -145,7 +157,7 @@ fn push_whole(
 fn key_length(word: &str) -> usize {
     let mut length = 0usize;
     for byte in word.bytes() {
-        if byte == b'+' || byte == b'*' || byte == b'!' {
+        if matches!(byte, b'+' | b'*' | b'%' | b'!') {
             return length;
         }
         length = length.saturating_add(1);
@@ -154,8 +166,8 @@ fn key_length(word: &str) -> usize {
 }
 
 /// One printed transaction more, in a word: `10:6731`, of the timestamp 10 and the id `67 31`, or `10@1.2`, of node 1
-/// and its entry 2; behind it a `+` for each table map with its row event, `*` where the table map has 42 bytes, and
-/// first a `!` where a statement is printed.
+/// and its entry 2; behind it a `+` for each table map with its row event, `*` where the table map has 42 bytes, `%` where it is
+/// that of shop.orders, and first a `!` where a statement is printed.
 fn push_word(alloc: Global, file: &mut Buffer, number: u64, word: &str) -> Result<(), Fail> {
     let length = key_length(word);
     let key = word.get(..length).ok_or("a word is cut")?;
@@ -168,19 +180,42 @@ fn push_word(alloc: Global, file: &mut Buffer, number: u64, word: &str) -> Resul
     Ok(())
 }
 
+// The file of transactions in words behind so many, and how many there are then; no byte where there is none.
+fn push_file(alloc: Global, file: &mut Buffer, before: u64, words: &str) -> Result<u64, Fail> {
+    let mut number = before;
+    for word in words.split_whitespace() {
+        if number == before {
+            file.push(&HEAD)?;
+        }
+        number = number.saturating_add(1);
+        push_word(alloc, file, number, word)?;
+    }
+    Ok(number)
+}
+
 /// The printed file of transactions in words, numbered from 1; no byte where there is none.
 pub fn printed(alloc: Global, words: &str) -> Result<Buffer, Fail> {
     let mut file = Buffer::new(alloc);
-    if words.is_empty() {
-        return Ok(file);
-    }
-    file.push(&HEAD)?;
-    let mut number = 0u64;
-    for word in words.split_whitespace() {
-        number = number.saturating_add(1);
-        push_word(alloc, &mut file, number, word)?;
-    }
+    push_file(alloc, &mut file, 0, words)?;
     Ok(file)
+}
+
+/// The two files of transactions in words, the second without a byte where there is none: behind a `>` the first one is closed, at
+/// 359 bytes.
+pub fn two_files(alloc: Global, words: &str) -> Result<[Buffer; 2], Fail> {
+    let mut first = Buffer::new(alloc);
+    let mut second = Buffer::new(alloc);
+    match words.split_once(">") {
+        Some((words, rest)) => {
+            let number = push_file(alloc, &mut first, 0, words)?;
+            first.push(ROTATE)?;
+            push_file(alloc, &mut second, number, rest)?;
+        }
+        None => {
+            push_file(alloc, &mut first, 0, words)?;
+        }
+    }
+    Ok([first, second])
 }
 
 /// The line of an answer, none where there is no text.

@@ -7,6 +7,8 @@
 #[cfg(test)]
 mod call;
 #[cfg(test)]
+mod clocked_source;
+#[cfg(test)]
 mod drill_tests;
 #[cfg(test)]
 mod expected;
@@ -25,11 +27,15 @@ mod many;
 #[cfg(test)]
 mod node_tests;
 #[cfg(test)]
-mod pass_tests;
+mod pass_row_tests;
+#[cfg(test)]
+mod pass_table;
 #[cfg(test)]
 mod passing;
 #[cfg(test)]
 mod piece_tests;
+#[cfg(test)]
+mod resume_tests;
 #[cfg(test)]
 mod row_tests;
 #[cfg(test)]
@@ -39,6 +45,10 @@ mod stop_tests;
 #[cfg(test)]
 mod table;
 #[cfg(test)]
+mod turn_tests;
+#[cfg(test)]
 mod untold_disk;
+#[cfg(test)]
+mod window_tests;
 #[cfg(test)]
 mod word_tests;

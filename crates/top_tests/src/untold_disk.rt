@@ -2,13 +2,23 @@
 
 ghost use Rattle.std.specs.Prelude.{◌≡◌, false, [], ⊤};
 
+use cdc_base::Memory;
 use cdc_memory::MemDisk;
 use cdc_outside::{Disk, DiskFile, Failed};
+use std::alloc::Global;
 
 /// A disk of which nothing is known but what is read of it, so that passes may be made over it one after another.
 #[derive(Drop)]
 pub struct UntoldDisk {
     pub disk: MemDisk,
+}
+
+impl UntoldDisk {
+    /// One outcome of a crash now.
+    pub fn after_crash(&self, alloc: Global, pick: u8) -> Result<UntoldDisk, Memory> {
+        let disk = self.disk.after_crash(alloc, pick)?;
+        Ok(UntoldDisk { disk })
+    }
 }
 
 impl Disk for UntoldDisk {

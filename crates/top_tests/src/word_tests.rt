@@ -5,7 +5,7 @@ use std::test::Fail;
 
 #[test]
 fn words_that_are_no_command_are_refused(rt: HostRuntime) -> Result<(), Fail> {
-    let cases: [&[&str]; 21] = [
+    let cases: [&[&str]; 25] = [
         &[],
         &["print"],
         &["print", "-x"],
@@ -18,6 +18,10 @@ fn words_that_are_no_command_are_refused(rt: HostRuntime) -> Result<(), Fail> {
         &["--version", "--help"],
         &["-h"],
         &["--HELP"],
+        &["run"],
+        &["run", "c", "d"],
+        &["run", "-c"],
+        &["run", "c", "--order"],
         &["run", "c", "--threads"],
         &["list"],
         &["list", "c", "d"],
