@@ -8,6 +8,9 @@ use std::test::Fail;
 /// The most bytes of a configuration.
 const TEXT_MAX: usize = 1_048_576;
 
+/// The first and the last table of 4,000 rules, one behind them, and one of another database.
+const TABLES: [(&str, &str); 4] = [("d", "0"), ("d", "3999"), ("d", "4000"), ("e", "0")];
+
 // A plan's configuration and a comment, of so many bytes together.
 fn commented(alloc: Global, length: usize) -> Result<String, AllocError> {
     let mut text = String::from_str(alloc, BASE)?;
@@ -43,11 +46,22 @@ fn a_text_has_at_most_1_048_576_bytes(rt: HostRuntime) -> Result<(), Fail> {
     Ok(())
 }
 
+// Which of these tables of these databases a text's plan renames: `y` or `n` each.
+fn found(alloc: Global, text: &str, tables: &[(&str, &str)]) -> Result<String, AllocError> {
+    let mut found = String::new(alloc);
+    if let Ok(plan) = plan_of(alloc, text.as_bytes()) {
+        for (db, table) in tables {
+            let rule = plan.names.find(db.as_bytes(), table.as_bytes());
+            found.push_str(if rule.is_some() { "y" } else { "n" })?;
+        }
+    }
+    Ok(found)
+}
+
 #[test]
 fn thousands_of_rules_are_found(rt: HostRuntime) -> Result<(), Fail> {
     let text = ruled(rt.alloc(), 4_000)?;
-    let plan = plan_of(rt.alloc(), text.as_bytes()).ok().ok_or("a plan")?;
-    assert!(rt; plan.names.find(b"d", b"0").is_some() && plan.names.find(b"d", b"3999").is_some());
-    assert!(rt; plan.names.find(b"d", b"4000").is_none() && plan.names.find(b"e", b"0").is_none());
+    let found = found(rt.alloc(), text.as_str(), &TABLES)?;
+    assert_eq!(rt; found.as_str(), "yynn");
     Ok(())
 }
