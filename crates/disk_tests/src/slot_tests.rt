@@ -1,7 +1,7 @@
 //! Slots of hostile bytes.
 
-use crate::samples::{BEFORE, with_slots};
-use cdc_cell::{Cell, CellFault};
+use crate::samples::{BEFORE, number_on, with_slots};
+use cdc_cell::CellFault;
 use cdc_outside::DiskFile;
 use std::alloc::Global;
 use std::test::Fail;
@@ -22,9 +22,7 @@ const CLOSED: &[u8] = b"\x7f\x06\0\0\0\0\0\0\0\0\0\0\0\0\0\0\0";
 
 // The number that a cell finds, 0 where it finds none.
 fn number(alloc: Global, first: &[u8], second: &[u8]) -> Result<u64, Fail> {
-    let mut disk = with_slots(alloc, first, second, 64, 2)?;
-    let cell = Cell::open(&mut disk)?;
-    Ok(cell.number())
+    Ok(number_on(&mut with_slots(alloc, first, second, 64, 2)?)?)
 }
 
 #[test]
@@ -46,13 +44,10 @@ fn the_greater_number_of_open_slots_counts(rt: HostRuntime) -> Result<(), Fail> 
     Ok(())
 }
 
-// The slot that a cell refuses.
-fn refused(alloc: Global, first: &[u8], second: &[u8]) -> Result<Option<DiskFile>, Fail> {
-    let mut disk = with_slots(alloc, first, second, 64, 2)?;
-    Ok(match Cell::open(&mut disk) {
-        Err(CellFault::BadCell(slot)) => Some(slot),
-        _ => None,
-    })
+// Whether a cell refuses this slot.
+fn is_refused(alloc: Global, first: &[u8], second: &[u8], slot: DiskFile) -> Result<bool, Fail> {
+    let opened = number_on(&mut with_slots(alloc, first, second, 64, 2)?);
+    Ok(opened == Err(CellFault::BadCell(slot)))
 }
 
 #[test]
@@ -67,8 +62,8 @@ fn a_slot_that_cannot_be_is_told(rt: HostRuntime) -> Result<(), Fail> {
         (SIX, SIX, DiskFile::SlotB),
     ];
     for (first, second, want) in rows {
-        let slot = refused(rt.alloc(), first, second)?;
-        assert!(rt; slot == Some(want), "not {want:?}");
+        let refused = is_refused(rt.alloc(), first, second, want)?;
+        assert!(rt; refused, "not {want:?}");
     }
     Ok(())
 }

@@ -1,6 +1,6 @@
 //! Stores that are cut off.
 
-use crate::samples::{BEFORE, kept, store_next, with_slots};
+use crate::samples::{BEFORE, store_and_crash, stores_next, with_slots};
 use cdc_memory::MemDisk;
 use std::alloc::Global;
 use std::test::Fail;
@@ -10,11 +10,8 @@ use std::test::Fail;
 fn is_old_or_new(alloc: Global, stop: u64, pick: u8) -> Result<bool, Fail> {
     let mut disk = with_slots(alloc, BEFORE, b"", 64, 8)?;
     disk.stop_at(stop);
-    let done = store_next(&mut disk, b"behind").is_ok();
-    let (number, payload) = kept(&mut disk.after_crash(alloc, pick)?)?;
-    let old = number == 5 && payload == *b"before";
-    let new = number == 6 && payload == *b"behind";
-    Ok(new || (old && !done))
+    let stored = store_and_crash(alloc, &mut disk, b"behind", pick)?;
+    Ok(stored.is_new() || (stored.is_old() && !stored.done))
 }
 
 #[test]
@@ -33,7 +30,7 @@ fn calls(alloc: Global) -> Result<u64, Fail> {
     for stop in 1..40 {
         let mut disk = with_slots(alloc, BEFORE, b"", 64, 8)?;
         disk.stop_at(stop);
-        if store_next(&mut disk, b"behind").is_ok() {
+        if stores_next(&mut disk, b"behind") {
             return Ok(stop - 1);
         }
     }
@@ -52,11 +49,9 @@ fn a_store_makes_so_many_calls(rt: HostRuntime) -> Result<(), Fail> {
 // Whether a store on an empty disk, of which one call fails, leaves nothing or the record, and counts the failure.
 fn fails_once(alloc: Global, call: u64, pick: u8) -> Result<bool, Fail> {
     let mut disk = MemDisk::new(alloc, 0, 64, 8, &[call])?;
-    let done = store_next(&mut disk, b"behind").is_ok();
-    let counted = disk.fault_count() == u64::from(!done);
-    let (number, payload) = kept(&mut disk.after_crash(alloc, pick)?)?;
-    let new = number == 6 && payload == *b"behind";
-    Ok(counted && (new || (number == 0 && !done)))
+    let stored = store_and_crash(alloc, &mut disk, b"behind", pick)?;
+    let counted = stored.faults == u64::from(!stored.done);
+    Ok(counted && (stored.is_new() || (stored.number == 0 && !stored.done)))
 }
 
 #[test]
@@ -71,56 +66,41 @@ fn a_failed_call_is_counted_and_leaves_nothing_or_the_record(rt: HostRuntime) ->
 }
 
 // Whether a store over these slots succeeds; where it fails, that is counted, and the old record stands.
-fn succeeds(
-    alloc: Global,
-    second: &[u8],
-    room: usize,
-    changes: usize,
-    payload: &[u8],
-) -> Result<bool, Fail> {
-    let mut disk = with_slots(alloc, BEFORE, second, room, changes)?;
-    let done = store_next(&mut disk, payload).is_ok();
-    let (number, _payload) = kept(&mut disk.after_crash(alloc, 1)?)?;
-    if number != 5 + u64::from(done) || disk.fault_count() != u64::from(!done) {
-        return Err(Fail::from("neither the old record nor the new one"));
+fn succeeds(alloc: Global, second: &[u8], changes: usize, payload: &[u8]) -> Result<bool, Fail> {
+    let mut disk = with_slots(alloc, BEFORE, second, 23, changes)?;
+    let stored = store_and_crash(alloc, &mut disk, payload, 1)?;
+    let done = stored.done;
+    if stored.number != 5 + u64::from(done) || stored.faults != u64::from(!done) {
+        return Err("neither the old record nor the new one")?;
     }
     Ok(done)
 }
 
-// A store of six bytes makes a slot of 23. It changes the gate where that is open or isn't there, then it writes the
-// head, the payload and the gate: four changes, or three.
-#[test]
-fn room_and_record_run_out(rt: HostRuntime) -> Result<(), Fail> {
-    let four_changes = succeeds(rt.alloc(), b"", 23, 4, b"behind")?;
-    assert!(rt; four_changes);
-    let past_the_room = succeeds(rt.alloc(), b"", 23, 4, b"behind!")?;
-    assert!(rt; !past_the_room);
-    let three_changes = succeeds(rt.alloc(), b"", 23, 3, b"behind")?;
-    assert!(rt; !three_changes);
-    Ok(())
-}
-
-#[test]
-fn a_closed_gate_is_not_written(rt: HostRuntime) -> Result<(), Fail> {
-    for gate in [b"\0", b"\x7f"] {
-        let three_changes = succeeds(rt.alloc(), gate, 23, 3, b"behind")?;
-        assert!(rt; three_changes);
-    }
-    let two_changes = succeeds(rt.alloc(), b"\x7f", 23, 2, b"behind")?;
-    assert!(rt; !two_changes);
-    Ok(())
-}
-
-#[test]
-fn an_open_gate_is_closed_first(rt: HostRuntime) -> Result<(), Fail> {
-    for slot in [b"\x01".as_slice(), OPEN_SLOT] {
-        let three_changes = succeeds(rt.alloc(), slot, 23, 3, b"behind")?;
-        assert!(rt; !three_changes);
-    }
-    let four_changes = succeeds(rt.alloc(), OPEN_SLOT, 23, 4, b"behind")?;
-    assert!(rt; four_changes);
-    Ok(())
-}
-
 /// An open slot with number 4 and no payload.
 const OPEN_SLOT: &[u8] = b"\x01\x04\0\0\0\0\0\0\0\0\0\0\0\0\0\0\0";
+
+/// A second slot, the room for changes, a payload, and whether a store of it succeeds over `BEFORE` in a room of 23
+/// bytes. A store of six bytes makes a slot of 23. It changes the gate where that is open or isn't there, then it
+/// writes the head, the payload and the gate: four changes, or three.
+const STORES: [(&[u8], usize, &[u8], bool); 9] = [
+    (b"", 4, b"behind", true),
+    (b"", 4, b"behind!", false),
+    (b"", 3, b"behind", false),
+    // A closed gate isn't written.
+    (b"\0", 3, b"behind", true),
+    (b"\x7f", 3, b"behind", true),
+    (b"\x7f", 2, b"behind", false),
+    // An open one is closed first.
+    (b"\x01", 3, b"behind", false),
+    (OPEN_SLOT, 3, b"behind", false),
+    (OPEN_SLOT, 4, b"behind", true),
+];
+
+#[test]
+fn room_and_record_run_out(rt: HostRuntime) -> Result<(), Fail> {
+    for (second, changes, payload, want) in STORES {
+        let done = succeeds(rt.alloc(), second, changes, payload)?;
+        assert!(rt; done == want, "{changes} changes over {second:?}");
+    }
+    Ok(())
+}
