@@ -2,52 +2,60 @@
 
 ghost use Rattle.std.specs.Prelude.{◌≤◌, length};
 
-use crate::pattern::{ask, pattern};
+use crate::pattern::{ask, pattern, read_file};
 use cdc_base::Text;
 use cdc_files::{FileSource, HeldSource};
-use cdc_outside::{Source, read_whole};
+use cdc_outside::{Failed, Source};
 use std::alloc::Global;
 use std::fs::File;
 use std::test::Fail;
 use std::{fs, slice};
 
-// Whether a file of the pattern's 70,000 bytes is read whole, and then in any order.
-fn is_read(alloc: Global, file: File, want: &[u8]) -> Result<bool, Fail> {
-    let mut source = FileSource::single(alloc, Some(file))?;
-    let read = read_whole(alloc, &mut source, 1)?;
-    let whole = read.bytes() == want;
-    let mut good = true;
-    for (at, bytes) in [(3u64, [3u8, 4]), (5, [5, 6]), (251, [0, 1]), (3, [3, 4])] {
-        good = good && gives(&mut source, at, bytes)?;
-    }
-    let past = ask(&mut source, 1, 70_000, &mut [0u8; 2])?;
-    let last = ask(&mut source, 1, 69_999, &mut [0u8; 2])?;
-    Ok(whole && good && past == 0 && last == 1 && source.faults() == 0)
+// Whether a read of a file, of at most four bytes, gives these.
+fn gives<S: Source>(
+    source: &mut S,
+    file: u32,
+    at: u64,
+    room: usize,
+    want: &[u8],
+) -> Result<bool, Failed> {
+    let mut into = [9u8; 4];
+    let read = ask(source, file, at, &mut into[..room.min(4)])?;
+    Ok(&into[..read.min(4)] == want)
 }
 
-// Whether a read of two bytes gives these.
-fn gives<S: Source>(source: &mut S, at: u64, want: [u8; 2]) -> Result<bool, Fail> {
-    let mut into = [9u8; 2];
-    let read = ask(source, 1, at, &mut into)?;
-    Ok(read == 2 && into == want)
+/// Places in a file of the pattern's 70,000 bytes, in any order, and what a read of two bytes gives there.
+const READS: [(u64, &[u8]); 6] = [
+    (3, &[3, 4]),
+    (5, &[5, 6]),
+    (251, &[0, 1]),
+    (3, &[3, 4]),
+    (70_000, &[]),
+    (69_999, &[221]),
+];
+
+// Whether all of these reads give what they should.
+fn gives_all<S: Source>(source: &mut S) -> Result<bool, Failed> {
+    let mut good = true;
+    for (at, want) in READS {
+        good = gives(source, 1, at, 2, want)? && good;
+    }
+    Ok(good)
+}
+
+// Whether a file of the pattern's 70,000 bytes is read whole, and then in any order.
+fn is_read<S: Source>(alloc: Global, source: &mut S, want: &[u8]) -> Result<bool, Fail> {
+    let read = read_file(alloc, source, 1)?;
+    Ok(read.bytes() == want && gives_all(source)?)
 }
 
 #[test]
 fn a_real_file_is_read(rt: HostRuntime) -> Result<(), Fail> {
     let want = pattern(rt.alloc(), 70_000)?;
     fs::write(&rt, "log", want.bytes())?;
-    let good = is_read(rt.alloc(), File::open(&rt, "log")?, want.bytes())?;
-    assert!(rt; good);
-    Ok(())
-}
-
-#[test]
-fn a_file_that_cannot_be_opened_fails_at_each_call(rt: HostRuntime) -> Result<(), Fail> {
-    let mut source = FileSource::single(rt.alloc(), File::open(&rt, "none").ok())?;
-    let files = source.files().is_err();
-    let length = source.length(1).is_err();
-    let read = source.read_at(1, 4, &mut [0u8; 2]).is_err();
-    assert!(rt; files && length && read && source.faults() == 3);
+    let mut source = FileSource::single(rt.alloc(), Some(File::open(&rt, "log")?))?;
+    let good = is_read(rt.alloc(), &mut source, want.bytes())?;
+    assert!(rt; good && source.faults() == 0);
     Ok(())
 }
 
@@ -61,6 +69,13 @@ fn failures<S: Source>(source: &mut S) -> u32
     u32::from(files) + u32::from(length) + u32::from(read)
 }
 
+#[test]
+fn a_file_that_cannot_be_opened_fails_at_each_call(rt: HostRuntime) -> Result<(), Fail> {
+    let mut source = FileSource::single(rt.alloc(), File::open(&rt, "none").ok())?;
+    assert!(rt; failures(&mut source) == 3 && source.faults() == 3);
+    Ok(())
+}
+
 // The length of a file; none where the source fails.
 fn told<S: Source>(source: &mut S, file: u32) -> Option<u64> {
     let files = source.files().ok()?;
@@ -70,65 +85,86 @@ fn told<S: Source>(source: &mut S, file: u32) -> Option<u64> {
     source.length(file).ok()
 }
 
+// A list of three files as one source: the first one once more behind the second.
+fn listed(rt: &HostRuntime) -> Result<FileSource<File>, Fail> {
+    let first = Text::of(rt.alloc(), "a")?;
+    let second = Text::of(rt.alloc(), "b")?;
+    let third = Text::of(rt.alloc(), "a")?;
+    Ok(FileSource::open(rt, &[first, second, third])?)
+}
+
 #[test]
 fn a_list_of_files_is_one_source(rt: HostRuntime) -> Result<(), Fail> {
     fs::write(&rt, "a", b"abc")?;
     fs::write(&rt, "b", b"0123456789")?;
-    let first = Text::of(rt.alloc(), "a")?;
-    let second = Text::of(rt.alloc(), "b")?;
-    let third = Text::of(rt.alloc(), "a")?;
-    let mut source = FileSource::open(&rt, &[first, second, third])?;
+    let mut source = listed(&rt)?;
     assert!(rt; source.files() == Ok(3));
-    assert!(rt; told(&mut source, 1) == Some(3) && told(&mut source, 2) == Some(10));
-    let mut into = [0u8; 4];
-    let read = ask(&mut source, 2, 7, &mut into)?;
-    assert!(rt; read == 3 && into.starts_with(b"789"));
-    let read = ask(&mut source, 3, 1, &mut into)?;
-    assert!(rt; read == 2 && into.starts_with(b"bc") && source.faults() == 0);
+    assert!(rt; told(&mut source, 1) == Some(3));
+    assert!(rt; told(&mut source, 2) == Some(10));
+    assert!(rt; gives(&mut source, 2, 7, 4, b"789")?);
+    assert!(rt; gives(&mut source, 3, 1, 4, b"bc")?);
+    assert!(rt; source.faults() == 0);
     Ok(())
+}
+
+// How many of three calls fail of a list of the file at this path, and how many are counted.
+fn failures_listed(rt: &HostRuntime, path: &Text) -> Result<(u32, u64), Fail> {
+    let mut source = FileSource::open(rt, slice::from_ref(path))?;
+    Ok((failures(&mut source), source.faults()))
+}
+
+// How many of three calls fail of the file at this path, held, and how many are counted.
+fn failures_held(rt: &HostRuntime, path: &Text) -> Result<(u32, u64), Fail> {
+    let mut source = HeldSource::open(rt, path)?;
+    Ok((failures(&mut source), source.faults()))
 }
 
 #[test]
 fn only_regular_files_are_read(rt: HostRuntime) -> Result<(), Fail> {
     fs::create_dir(&rt, "folder")?;
     for path in ["folder", "/dev/null", "none"] {
-        let path = Text::of(rt.alloc(), path)?;
-        let mut source = FileSource::open(&rt, slice::from_ref(&path))?;
-        assert!(rt; failures(&mut source) == 3 && source.faults() == 3);
-        let mut held = HeldSource::open(&rt, &path)?;
-        assert!(rt; failures(&mut held) == 3 && held.faults() == 3);
+        let text = Text::of(rt.alloc(), path)?;
+        let listed = failures_listed(&rt, &text)?;
+        let held = failures_held(&rt, &text)?;
+        assert!(rt; listed == (3, 3) && held == (3, 3), "{path}");
     }
     Ok(())
+}
+
+// A list of one file.
+fn list_of(rt: &HostRuntime, path: &str) -> Result<FileSource<File>, Fail> {
+    let path = Text::of(rt.alloc(), path)?;
+    Ok(FileSource::open(rt, slice::from_ref(&path))?)
 }
 
 #[test]
 fn a_file_that_becomes_shorter_fails(rt: HostRuntime) -> Result<(), Fail> {
     fs::write(&rt, "log", b"0123456789")?;
-    let path = Text::of(rt.alloc(), "log")?;
-    let mut source = FileSource::open(&rt, slice::from_ref(&path))?;
+    let mut source = list_of(&rt, "log")?;
     assert!(rt; told(&mut source, 1) == Some(10));
     fs::write(&rt, "log", b"01234")?;
-    let mut into = [0u8; 4];
-    assert!(rt; ask(&mut source, 1, 3, &mut into) == Ok(2));
-    assert!(rt; ask(&mut source, 1, 5, &mut into).is_err());
+    assert!(rt; gives(&mut source, 1, 3, 4, b"34")?);
+    assert!(rt; gives(&mut source, 1, 5, 4, b"").is_err());
     assert!(rt; told(&mut source, 1) == None && source.faults() == 2);
     Ok(())
 }
 
-// The bytes that a held file of so many has, where it is as the pattern.
-fn held(rt: &HostRuntime, bytes: u32) -> Result<Option<usize>, Fail> {
-    let want = pattern(rt.alloc(), bytes)?;
-    fs::write(rt, "held", want.bytes())?;
+// A file that was held before it became empty.
+fn held_before(rt: &HostRuntime, bytes: &[u8]) -> Result<HeldSource, Fail> {
+    fs::write(rt, "held", bytes)?;
     let path = Text::of(rt.alloc(), "held")?;
-    let mut source = HeldSource::open(rt, &path)?;
+    let source = HeldSource::open(rt, &path)?;
     fs::write(rt, "held", b"")?;
-    let read = read_whole(rt.alloc(), &mut source, 1)?;
-    let same = want.bytes().get(..read.len()) == Some(read.bytes());
-    Ok(if same && source.faults() == 0 {
-        Some(read.len())
-    } else {
-        None
-    })
+    Ok(source)
+}
+
+// Whether of a held file of so many bytes the first so many are read, as the pattern has them.
+fn is_held(rt: &HostRuntime, bytes: u32, kept: u32) -> Result<bool, Fail> {
+    let all = pattern(rt.alloc(), bytes)?;
+    let want = pattern(rt.alloc(), kept)?;
+    let mut source = held_before(rt, all.bytes())?;
+    let read = read_file(rt.alloc(), &mut source, 1)?;
+    Ok(read.bytes() == want.bytes() && source.faults() == 0)
 }
 
 #[test]
@@ -141,8 +177,8 @@ fn a_file_is_held_as_it_was_read(rt: HostRuntime) -> Result<(), Fail> {
         (1_048_600, 1_048_577),
     ];
     for (bytes, kept) in rows {
-        let found = held(&rt, bytes)?;
-        assert!(rt; found == Some(kept), "{bytes} bytes");
+        let good = is_held(&rt, bytes, kept)?;
+        assert!(rt; good, "{bytes} bytes");
     }
     Ok(())
 }

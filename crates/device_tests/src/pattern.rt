@@ -1,18 +1,19 @@
-//! What the tests read.
+//! What the tests read, and the calls that they make of any source.
 
 ghost use Rattle.std.specs.Prelude.{◌≡◌, length, IfOk};
-ghost use Rattle.cdc_memory.specs.Source.{held_files, pure_held_files};
+ghost use Rattle.cdc_memory.specs.Source.{held_files};
 
 use cdc_base::{Blob, Buffer, Memory};
 use cdc_memory::{MemSource, PureSource};
-use cdc_outside::{Failed, Source};
+use cdc_outside::{Failed, ReadWholeError, Source, read_whole};
 use std::alloc::Global;
 
+/// The most bytes of a file of these tests.
+const LONGEST: usize = 4_000_000;
+
 /// So many bytes: 0, 1, .. 250, and again from 0.
-pub fn pattern(alloc: Global, bytes: u32) -> Result<Blob, Memory>
-    ensures { IfOk result (λ blob. length blob ≡ bytes) }
-{
-    let mut text = Buffer::with_room(alloc, bytes as usize)?;
+pub fn pattern(alloc: Global, bytes: u32) -> Result<Blob, Memory> {
+    let mut text = Buffer::new(alloc);
     for place in 0..bytes {
         text.push(&[(place % 251) as u8])?;
     }
@@ -24,15 +25,19 @@ pub fn one_file(alloc: Global, bytes: u32, fails: &[u64]) -> Result<MemSource, M
     ensures { IfOk result (λ source. length (held_files source) ≡ 1) }
 {
     let file = pattern(alloc, bytes)?;
+    if file.len() > LONGEST {
+        return Err(Memory);
+    }
     MemSource::new(alloc, &[file], fails)
 }
 
 /// A source of two files that never fails.
-pub fn two_files(alloc: Global, first: u32, second: u32) -> Result<PureSource, Memory>
-    ensures { IfOk result (λ source. length (pure_held_files source) ≡ 2) }
-{
+pub fn two_files(alloc: Global, first: u32, second: u32) -> Result<PureSource, Memory> {
     let first = pattern(alloc, first)?;
     let second = pattern(alloc, second)?;
+    if first.len() > LONGEST || second.len() > LONGEST {
+        return Err(Memory);
+    }
     PureSource::new(alloc, &[first, second])
 }
 
@@ -48,4 +53,17 @@ pub fn ask<S: Source>(
         return Err(Failed);
     }
     source.read_at(file, at, into)
+}
+
+/// Reads a file that the source has whole.
+pub fn read_file<S: Source>(
+    alloc: Global,
+    source: &mut S,
+    file: u32,
+) -> Result<Blob, ReadWholeError> {
+    let files = source.files()?;
+    if file == 0 || files < file {
+        return Err(ReadWholeError::Failed);
+    }
+    read_whole(alloc, source, file)
 }

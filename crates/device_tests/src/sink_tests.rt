@@ -6,19 +6,21 @@ use cdc_outside::{Failed, Sink};
 use std::io::{Cursor, Stderr, Stdout, Write};
 use std::test::Fail;
 
-// Room for 5 bytes; the second write fails by the list, the fourth and the sixth past the room.
+/// Writes to a sink with room for 5 bytes, whether each succeeds, and what is written and how many failed behind it.
+/// The second write fails by the list, the fourth and the sixth past the room.
+const WRITES: [(&[u8], bool, &[u8], u64); 6] = [
+    (b"ab", true, b"ab", 0),
+    (b"c", false, b"ab", 1),
+    (b"cde", true, b"abcde", 1),
+    (b"f", false, b"abcde", 2),
+    (b"", true, b"abcde", 2),
+    (b"gh", false, b"abcde", 3),
+];
+
 #[test]
 fn a_failed_write_writes_nothing(rt: HostRuntime) -> Result<(), Fail> {
     let mut sink = MemSink::new(rt.alloc(), 5, &[2])?;
-    let writes: [(&[u8], bool, &[u8], u64); 6] = [
-        (b"ab", true, b"ab", 0),
-        (b"c", false, b"ab", 1),
-        (b"cde", true, b"abcde", 1),
-        (b"f", false, b"abcde", 2),
-        (b"", true, b"abcde", 2),
-        (b"gh", false, b"abcde", 3),
-    ];
-    for (bytes, succeeds, written, faults) in writes {
+    for (bytes, succeeds, written, faults) in WRITES {
         let done = sink.write(bytes).is_ok();
         let same = sink.written() == written;
         assert!(rt; done == succeeds && same && sink.faults() == faults);

@@ -16,26 +16,25 @@ fn gives(alloc: Global, place: Place, room: usize, want: &[u8]) -> Result<bool, 
     let mut into = [255u8; 4];
     let room = room.min(4);
     let read = ask(&mut source, place.file, place.at, &mut into[..room])?;
-    let same = match into.get(..read) {
-        Some(bytes) => bytes == want,
-        None => false,
-    };
-    Ok(same && source.lowest() == Some(place))
+    let bytes = &into[..read.min(4)];
+    Ok(bytes == want && source.lowest() == Some(place))
 }
+
+/// A file, a place in it, the room for what is read there, and what that is.
+const READS: [(u32, u64, usize, &[u8]); 8] = [
+    (1, 0, 4, &[0, 1, 2]),
+    (1, 3, 4, &[]),
+    (2, 0, 4, &[0, 1, 2, 3]),
+    (2, 8, 4, &[8, 9]),
+    (2, 9, 1, &[9]),
+    (2, 10, 4, &[]),
+    (2, 11, 4, &[]),
+    (2, 3, 0, &[]),
+];
 
 #[test]
 fn reads_give_what_the_file_still_has(rt: HostRuntime) -> Result<(), Fail> {
-    let cases: [(u32, u64, usize, &[u8]); 8] = [
-        (1, 0, 4, &[0, 1, 2]),
-        (1, 3, 4, &[]),
-        (2, 0, 4, &[0, 1, 2, 3]),
-        (2, 8, 4, &[8, 9]),
-        (2, 9, 1, &[9]),
-        (2, 10, 4, &[]),
-        (2, 11, 4, &[]),
-        (2, 3, 0, &[]),
-    ];
-    for (file, at, room, want) in cases {
+    for (file, at, room, want) in READS {
         let good = gives(rt.alloc(), Place { file, at }, room, want)?;
         assert!(rt; good, "file {file} at {at}");
     }
@@ -50,22 +49,27 @@ fn lowest_of_two(alloc: Global, first: Place, second: Place) -> Result<Option<Pl
     Ok(source.lowest())
 }
 
+/// Places of two files, from the least on.
+const PLACES: [Place; 4] = [
+    Place { file: 1, at: 8 },
+    Place { file: 1, at: 9 },
+    Place { file: 2, at: 0 },
+    Place { file: 2, at: 3 },
+];
+
+// Whether of two of these places, asked for one after the other, the least is the lowest.
+fn least_is_lowest(alloc: Global, first: usize, second: usize) -> Result<bool, Fail> {
+    let (place, other) = (PLACES[first % 4], PLACES[second % 4]);
+    let want = if first < second { place } else { other };
+    Ok(lowest_of_two(alloc, place, other)? == Some(want))
+}
+
 #[test]
 fn lowest_is_the_least_place_asked_for(rt: HostRuntime) -> Result<(), Fail> {
-    let places = [(1, 8), (1, 9), (2, 0), (2, 3)];
-    for (i, (file, at)) in places.iter().enumerate() {
-        for (j, (other_file, other_at)) in places.iter().enumerate() {
-            let place = Place {
-                file: *file,
-                at: *at,
-            };
-            let other = Place {
-                file: *other_file,
-                at: *other_at,
-            };
-            let want = if i < j { place } else { other };
-            let lowest = lowest_of_two(rt.alloc(), place, other)?;
-            assert!(rt; lowest == Some(want), "{i} then {j}");
+    for first in 0..4usize {
+        for second in 0..4usize {
+            let good = least_is_lowest(rt.alloc(), first, second)?;
+            assert!(rt; good, "{first} then {second}");
         }
     }
     Ok(())

@@ -85,10 +85,9 @@ pub fn entry_of(number: u32, word: &str) -> Result<Entry, Fail> {
     })
 }
 
-/// The id of an xid.
-fn id_text(alloc: Global, xid: &Xid) -> Result<String, AllocError> {
-    let last = xid.gtrid.bytes().last().copied().unwrap_or(0);
-    format!(in alloc; "{last}")
+// The last byte of an xid's global id.
+fn id_of(xid: &Xid) -> u8 {
+    xid.gtrid.bytes().last().copied().unwrap_or(0)
 }
 
 /// A key as `10:49` (49 is the last byte of its id) or `10:1:2` (node and entry).
@@ -113,74 +112,128 @@ fn branch_text(alloc: Global, branch: &Branch) -> Result<String, AllocError> {
     format!(in alloc; "{key}#{entry}")
 }
 
-/// What is answered to an entry.
-fn answer_text(alloc: Global, answer: &Result<(), SortError>) -> Result<String, AllocError> {
-    match answer {
-        Ok(()) => format!(in alloc; "-"),
-        Err(SortError::Fault(SortFault::DoublePrepare(xid))) => {
-            let id = id_text(alloc, xid)?;
-            format!(in alloc; "DoublePrepare {id}")
-        }
-        Err(SortError::Fault(SortFault::UnknownBranch(xid))) => {
-            let id = id_text(alloc, xid)?;
-            format!(in alloc; "UnknownBranch {id}")
-        }
-        Err(SortError::Fault(SortFault::Undercut { timestamp, floor })) => {
+// Why an entry is refused.
+fn put_fault(alloc: Global, fault: &SortFault, into: &mut String) -> Result<(), AllocError> {
+    let text = match fault {
+        SortFault::DoublePrepare(xid) => format!(in alloc; "DoublePrepare {}", id_of(xid)),
+        SortFault::UnknownBranch(xid) => format!(in alloc; "UnknownBranch {}", id_of(xid)),
+        SortFault::Undercut { timestamp, floor } => {
             format!(in alloc; "Undercut {timestamp} {floor}")
         }
-        Err(SortError::Memory) => format!(in alloc; "memory"),
-    }
+    };
+    into.push_str(text?.as_str())
 }
 
-/// All that a sorter gives now, each with a blank before it.
-fn given_text(alloc: Global, sorter: &mut Sorter) -> Result<String, AllocError> {
-    let mut text = String::new(alloc);
-    for _ in 0..1_000 {
-        let Some(branch) = sorter.pop() else {
-            return Ok(text);
-        };
-        let branch = branch_text(alloc, &branch)?;
-        text.push_str(" ")?;
-        text.push_str(&branch)?;
-    }
-    Ok(text)
-}
-
-/// What a sorter answers to the entries of these words, numbered from one on: to each the answer, the bound and what it
-/// gives.
-pub fn answers(
+// What is answered to an entry.
+fn put_answer(
     alloc: Global,
-    sorter: &mut Sorter,
-    first: u32,
-    words: &str,
-) -> Result<String, Fail> {
-    let mut all = String::new(alloc);
-    let mut number = first;
-    for word in words.split(" ") {
-        let answer = sorter.take(entry_of(number, word)?);
-        let answer = answer_text(alloc, &answer)?;
-        let bound = sorter.bound();
-        let given = given_text(alloc, sorter)?;
-        all.push_str(&format!(in alloc; "{answer} {bound}{given}, ")?)?;
-        number = number.wrapping_add(1);
+    answer: &Result<(), SortError>,
+    into: &mut String,
+) -> Result<(), AllocError> {
+    match answer {
+        Ok(()) => into.push_str("-"),
+        Err(SortError::Memory) => into.push_str("memory"),
+        Err(SortError::Fault(fault)) => put_fault(alloc, fault, into),
     }
-    Ok(all)
 }
 
-/// Takes the entries of these words, numbered from one on, all of which are sound.
-pub fn take_all(sorter: &mut Sorter, first: u32, words: &str) -> Result<(), Fail> {
-    let mut number = first;
-    for word in words.split(" ") {
-        if let Err(_) = sorter.take(entry_of(number, word)?) {
-            return Err("refused")?;
+/// A sorter whose calls promise nothing here: what it answers is compared with tables.
+#[derive(Drop)]
+pub struct Asked {
+    alloc: Global,
+    sorter: Sorter,
+}
+
+impl Asked {
+    /// A sorter of node 1, from the log's start.
+    pub fn new(alloc: Global) -> Asked {
+        Asked {
+            alloc,
+            sorter: Sorter::new(alloc, 1),
         }
-        number = number.wrapping_add(1);
     }
-    Ok(())
+
+    /// A sorter of node 1 from the point before the third entry at a byte of file 1 on, above a key.
+    pub fn resumed(alloc: Global, at: u64, last: &Key) -> Result<Asked, Fail> {
+        let cut = point(alloc, at)?;
+        let sorter = Sorter::resumed(alloc, 1, &cut, last)?;
+        Ok(Asked { alloc, sorter })
+    }
+
+    // Takes an entry, and says what is answered.
+    fn take(&mut self, entry: Entry, into: &mut String) -> Result<(), AllocError> {
+        let answer = self.sorter.take(entry);
+        put_answer(self.alloc, &answer, into)
+    }
+
+    // Takes an entry, and says whether it is sound.
+    fn takes(&mut self, entry: Entry) -> bool {
+        self.sorter.take(entry).is_ok()
+    }
+
+    // The next branch that is given, as a text.
+    fn next_text(&mut self) -> Result<Option<String>, AllocError> {
+        match self.sorter.pop() {
+            Some(branch) => Ok(Some(branch_text(self.alloc, &branch)?)),
+            None => Ok(None),
+        }
+    }
+
+    // The bound, and all that is given now, each with a blank before it.
+    fn put_given(&mut self, into: &mut String) -> Result<(), AllocError> {
+        into.push_str(format!(in self.alloc; " {}", self.sorter.bound())?.as_str())?;
+        for _ in 0..1_000 {
+            match self.next_text()? {
+                Some(branch) => {
+                    into.push_str(" ")?;
+                    into.push_str(branch.as_str())?;
+                }
+                None => return Ok(()),
+            }
+        }
+        Ok(())
+    }
+
+    /// What is answered to the entries of these words, numbered from `first` on: to each the answer, the bound and what is
+    /// given.
+    pub fn answers(&mut self, first: u32, words: &str) -> Result<String, Fail> {
+        let mut all = String::new(self.alloc);
+        let mut number = first;
+        for word in words.split(" ") {
+            self.take(entry_of(number, word)?, &mut all)?;
+            self.put_given(&mut all)?;
+            all.push_str(", ")?;
+            number = number.wrapping_add(1);
+        }
+        Ok(all)
+    }
+
+    /// Takes the entries of these words, numbered from `first` on, all of which are sound.
+    pub fn take_all(&mut self, first: u32, words: &str) -> Result<(), Fail> {
+        let mut number = first;
+        for word in words.split(" ") {
+            if !self.takes(entry_of(number, word)?) {
+                return Err("refused")?;
+            }
+            number = number.wrapping_add(1);
+        }
+        Ok(())
+    }
+
+    /// Says that all below a key was merged.
+    pub fn forget(&mut self, last: &Key) {
+        self.sorter.forget(last);
+    }
+
+    /// The latest point for a key.
+    pub fn cut(&self, last: &Key) -> Result<String, Fail> {
+        let cut = self.sorter.cut(last)?;
+        Ok(cut_text(self.alloc, &cut)?)
+    }
 }
 
-/// The point before the third entry, at a byte of file 1, with the mark 10: the branch of g1 stands open there with the floor 0.
-pub fn point(alloc: Global, at: u64) -> Result<NodeCut, Fail>
+// The point before the third entry, at a byte of file 1, with the mark 10: the branch of g1 stands open there with the floor 0.
+fn point(alloc: Global, at: u64) -> Result<NodeCut, Fail>
     ensures { IfOk result (λ cut. AscendByXid (map held_open cut.held)) }
 {
     let mut held = HeldList::new(alloc);
@@ -194,15 +247,14 @@ pub fn point(alloc: Global, at: u64) -> Result<NodeCut, Fail>
     })
 }
 
-/// A cut as its entry, place, mark, setting, and each branch held open as the last byte of its id and its floor.
-pub fn cut_text(alloc: Global, cut: &NodeCut) -> Result<String, AllocError> {
+// A cut as its entry, place, mark, setting, and each branch held open as the last byte of its id and its floor.
+fn cut_text(alloc: Global, cut: &NodeCut) -> Result<String, AllocError> {
     let (entry, file, at) = (cut.entry, cut.place.file, cut.place.at);
     let (mark, checksum) = (cut.mark, cut.checksum);
     let mut text = format!(in alloc; "{entry} {file}:{at} {mark} {checksum}")?;
     for pair in cut.held.as_slice() {
-        let id = id_text(alloc, &pair.0)?;
-        let floor = pair.1;
-        text.push_str(&format!(in alloc; " {id}.{floor}")?)?;
+        let held = format!(in alloc; " {}.{}", id_of(&pair.0), pair.1)?;
+        text.push_str(held.as_str())?;
     }
     Ok(text)
 }

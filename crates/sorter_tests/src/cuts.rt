@@ -1,8 +1,8 @@
 //! The points from which logs are read again.
 
-use crate::answers::{cut_text, last_of, point, take_all};
-use cdc_base::first_key;
-use cdc_sorter::Sorter;
+use crate::answers::{Asked, last_of};
+use cdc_base::{Key, first_key};
+use std::alloc::Global;
 use std::test::Fail;
 
 /// The entries of a log, a key up to which all was merged, and the latest point for it: the number of its entry, its place, mark and
@@ -33,36 +33,42 @@ B:10 L: L: B:11=L10:2=3 1:300 10 0
 P:g1 P:g2 C:g1@8 B:9 C:g2@8=8:g1=2 1:200 0 0 49.0
 ";
 
+// The latest point for a key behind the entries of these words, twice: the second time behind what was forgotten for it.
+fn points(alloc: Global, words: &str, last: &Key) -> Result<(String, String), Fail> {
+    let mut sorter = Asked::new(alloc);
+    sorter.take_all(1, words)?;
+    let cut = sorter.cut(last)?;
+    sorter.forget(last);
+    Ok((cut, sorter.cut(last)?))
+}
+
 #[test]
 fn the_latest_point(rt: HostRuntime) -> Result<(), Fail> {
-    let alloc = rt.alloc();
     for row in CUTS.lines() {
         let (words, rest) = row.split_once("=").ok_or("no key")?;
         let (last, wanted) = rest.split_once("=").ok_or("no cut")?;
-        let last = last_of(last)?;
-        let mut sorter = Sorter::new(alloc, 1);
-        take_all(&mut sorter, 1, words)?;
-        let cut = cut_text(alloc, &sorter.cut(&last)?)?;
+        let (cut, again) = points(rt.alloc(), words, &last_of(last)?)?;
         assert_eq!(&rt; cut.as_str(), wanted, "{words}");
-        sorter.forget(&last);
-        let again = cut_text(alloc, &sorter.cut(&last)?)?;
         assert_eq!(&rt; again.as_str(), wanted, "forgotten behind {words}");
     }
     Ok(())
 }
 
+// The latest point for a key, where all that isn't wanted for it was forgotten before the entries of these words.
+fn point_forgotten_first(alloc: Global, words: &str, last: &Key) -> Result<String, Fail> {
+    let mut sorter = Asked::new(alloc);
+    sorter.forget(last);
+    sorter.forget(&first_key());
+    sorter.take_all(1, words)?;
+    sorter.cut(last)
+}
+
 #[test]
 fn what_is_forgotten_first_is_not_wanted(rt: HostRuntime) -> Result<(), Fail> {
-    let alloc = rt.alloc();
     for row in CUTS.lines() {
         let (words, rest) = row.split_once("=").ok_or("no key")?;
         let (last, wanted) = rest.split_once("=").ok_or("no cut")?;
-        let last = last_of(last)?;
-        let mut sorter = Sorter::new(alloc, 1);
-        sorter.forget(&last);
-        sorter.forget(&first_key());
-        take_all(&mut sorter, 1, words)?;
-        let cut = cut_text(alloc, &sorter.cut(&last)?)?;
+        let cut = point_forgotten_first(rt.alloc(), words, &last_of(last)?)?;
         assert_eq!(&rt; cut.as_str(), wanted, "{words}");
     }
     Ok(())
@@ -78,35 +84,42 @@ B:11 R:g1 P:g1 B:12=10:g1=5 1:500 11 0
 B:11 C:g1@10 P:g1 B:12=11:g1=5 1:500 11 0
 ";
 
+// The latest point for a key behind the entries of these words, which come behind another point.
+fn later_point(alloc: Global, words: &str, last: &str) -> Result<String, Fail> {
+    let mut sorter = Asked::resumed(alloc, 293, &last_of("10:g1")?)?;
+    sorter.take_all(3, words)?;
+    sorter.cut(&last_of(last)?)
+}
+
 #[test]
 fn the_latest_point_behind_another(rt: HostRuntime) -> Result<(), Fail> {
-    let alloc = rt.alloc();
     for row in RESTS.lines() {
         let (words, rest) = row.split_once("=").ok_or("no key")?;
         let (last, wanted) = rest.split_once("=").ok_or("no cut")?;
-        let cut = point(alloc, 293)?;
-        let mut sorter = Sorter::resumed(alloc, 1, &cut, &last_of("10:g1")?)?;
-        take_all(&mut sorter, 3, words)?;
-        let later = cut_text(alloc, &sorter.cut(&last_of(last)?)?)?;
+        let later = later_point(rt.alloc(), words, last)?;
         assert_eq!(&rt; later.as_str(), wanted, "{words}");
     }
     Ok(())
 }
 
+// Takes the entries of branches that come and go, a thousand times, numbered from `first` on; the number behind them.
+fn take_many(sorter: &mut Asked, first: u32) -> Result<u32, Fail> {
+    let mut number = first;
+    for _ in 0..1_000 {
+        sorter.take_all(number, "P:g4 R:g4")?;
+        number = number.wrapping_add(2);
+    }
+    Ok(number)
+}
+
 /// Of so many branches that come and go one stays open: only what stood open where it began is kept.
 #[test]
 fn ended_branches_are_dropped(rt: HostRuntime) -> Result<(), Fail> {
-    let alloc = rt.alloc();
-    let mut sorter = Sorter::new(alloc, 1);
-    take_all(&mut sorter, 1, "P:g1 P:g2 B:5 P:g3")?;
-    let mut number = 5_u32;
-    for _ in 0..1_000 {
-        take_all(&mut sorter, number, "P:g4 R:g4")?;
-        number = number.wrapping_add(2);
-    }
-    take_all(&mut sorter, number, "C:g2@6 C:g1@7")?;
-    let last = last_of("7:g1")?;
-    let cut = cut_text(alloc, &sorter.cut(&last)?)?;
+    let mut sorter = Asked::new(rt.alloc());
+    sorter.take_all(1, "P:g1 P:g2 B:5 P:g3")?;
+    let number = take_many(&mut sorter, 5)?;
+    sorter.take_all(number, "C:g2@6 C:g1@7")?;
+    let cut = sorter.cut(&last_of("7:g1")?)?;
     assert_eq!(&rt; cut.as_str(), "4 1:400 5 0 49.0 50.0");
     Ok(())
 }

@@ -1,7 +1,6 @@
 //! Logs, with what is answered to their entries.
 
-use crate::answers::{answers, key_of, point};
-use cdc_sorter::Sorter;
+use crate::answers::{Asked, key_of};
 use std::test::Fail;
 
 /// The entries of a log, and to each the answer, the bound, and what is given then: a key as its timestamp and the last byte of
@@ -23,11 +22,9 @@ P:g1 C:g1@3 P:g1 C:g1@4=- 0, - 3 3:49#2, - 3, - 4 4:49#4, ";
 
 #[test]
 fn logs_from_their_start(rt: HostRuntime) -> Result<(), Fail> {
-    let alloc = rt.alloc();
     for row in LOGS.lines() {
         let (words, wanted) = row.split_once("=").ok_or("no answers")?;
-        let mut sorter = Sorter::new(alloc, 1);
-        let told = answers(alloc, &mut sorter, 1, words)?;
+        let told = Asked::new(rt.alloc()).answers(1, words)?;
         assert_eq!(&rt; told.as_str(), wanted, "{words}");
     }
     Ok(())
@@ -43,13 +40,10 @@ R:g1 L: B:11=- 10, - 10, - 11 10:1:4#4, ";
 
 #[test]
 fn logs_from_a_restart_point(rt: HostRuntime) -> Result<(), Fail> {
-    let alloc = rt.alloc();
     for row in RESTS.lines() {
         let (words, wanted) = row.split_once("=").ok_or("no answers")?;
-        let cut = point(alloc, 300)?;
-        let last = key_of("10:g1")?;
-        let mut sorter = Sorter::resumed(alloc, 1, &cut, &last)?;
-        let told = answers(alloc, &mut sorter, 3, words)?;
+        let mut sorter = Asked::resumed(rt.alloc(), 300, &key_of("10:g1")?)?;
+        let told = sorter.answers(3, words)?;
         assert_eq!(&rt; told.as_str(), wanted, "{words}");
     }
     Ok(())

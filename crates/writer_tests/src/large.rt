@@ -4,16 +4,16 @@ ghost use Rattle.std.specs.Prelude.{◌≤◌, ◌^◌, IfOk};
 ghost use Rattle.std.specs.List.{AllByRecursion};
 ghost use Rattle.cdc_model.specs.Kept.{IsRow};
 
-use crate::printed::printed;
+use crate::printed::{error_of, made, printed};
+use crate::samples::stands_at;
 use cdc_base::Memory;
 use cdc_event::Body;
 use cdc_model::{Layout, RowList, RowRun, Txn};
 use cdc_rename::Names;
-use cdc_samples::blobs::part;
 use cdc_samples::layouts::NO_FILE;
 use cdc_samples::rows::{add_row, add_shared, value_body, value_row};
 use cdc_samples::transactions::{add_branch, no_branches, shared, transaction};
-use cdc_writer::{PrintError, print_length, unit};
+use cdc_writer::{PrintError, print_length};
 use std::alloc::Global;
 use std::process::Abort;
 use std::test::Fail;
@@ -49,16 +49,16 @@ fn large_rows(alloc: Global, last: usize) -> Result<RowList, Memory>
 }
 
 // A transaction of these rows.
-fn of_large_rows(alloc: Global, number: u64, last: usize) -> Result<Option<Txn>, Memory>
-    requires { last ≤ 2 ^ 20 }
-{
+fn of_large_rows(alloc: Global, number: u64, last: usize) -> Result<Txn, Memory> {
     let Some(key) = shared(10, b"g1") else {
-        return Ok(None);
+        return Err(Memory);
     };
-    let rows = large_rows(alloc, last)?;
+    if last > 1 << 20 {
+        return Err(Memory);
+    }
     let mut branches = no_branches(alloc);
-    add_branch(&mut branches, &key, rows)?;
-    Ok(Some(transaction(number, &key, branches)))
+    add_branch(&mut branches, &key, large_rows(alloc, last)?)?;
+    Ok(transaction(number, &key, branches))
 }
 
 // The first nine bytes of a print, and the last 27 of the greatest one.
@@ -69,43 +69,37 @@ const LAST: &[u8] = b"\x05\0\0\0\x10\x01\0\0\0\x1b\0\0\0\x7b\0\0\x10\0\0\x01\0\0
 // 38 + 19 + 255 * 2^20 + (19 + last) + 53 + 27 = 2^28
 const LAST_BODY: usize = (1 << 20) - 118 - 38;
 
+// Why a print of a byte more is refused.
+const REFUSED: PrintError = PrintError::TooLarge {
+    number: 2,
+    bytes: 268435457,
+};
+
 // Whether a print of 2^28 bytes is printed.
 fn greatest_is_printed(alloc: Global) -> Result<bool, PrintError> {
     let names = Names::new(alloc);
-    let Some(txn) = of_large_rows(alloc, 1, LAST_BODY)? else {
-        return Ok(false);
-    };
-    let buffer = printed(alloc, &txn, &names, 123, b"")?;
+    let txn = of_large_rows(alloc, 1, LAST_BODY)?;
+    let buffer = printed(alloc, &txn, &names, b"")?;
     Ok(
         print_length(&txn, &names) == 268435456
             && buffer.len() == 268435456
-            && part(buffer.bytes(), 0, 9) == FIRST
-            && part(buffer.bytes(), 268435429, 268435456) == LAST,
+            && stands_at(buffer.bytes(), 0, FIRST)
+            && stands_at(buffer.bytes(), 268435429, LAST),
     )
 }
 
 // Whether a print of a byte more is refused, with its number and length.
 fn larger_is_refused(alloc: Global) -> Result<bool, PrintError> {
     let names = Names::new(alloc);
-    let Some(txn) = of_large_rows(alloc, 2, LAST_BODY + 1)? else {
-        return Ok(false);
-    };
-    let refused = PrintError::TooLarge {
-        number: 2,
-        bytes: 268435457,
-    };
-    match printed(alloc, &txn, &names, 123, b"") {
-        Ok(_) => Ok(false),
-        Err(error) => Ok(error == refused && print_length(&txn, &names) == 268435457),
-    }
+    let txn = of_large_rows(alloc, 2, LAST_BODY + 1)?;
+    let error = error_of(printed(alloc, &txn, &names, b""));
+    Ok(error == Some(REFUSED) && print_length(&txn, &names) == 268435457)
 }
 
 // Whether a print of 2^28 bytes becomes a unit, behind the file's head.
 fn greatest_becomes_a_unit(alloc: Global) -> Result<bool, PrintError> {
-    let Some(txn) = of_large_rows(alloc, 1, LAST_BODY)? else {
-        return Ok(false);
-    };
-    let unit = unit(alloc, &txn, &Names::new(alloc), &NO_FILE, 1 << 30)?;
+    let txn = of_large_rows(alloc, 1, LAST_BODY)?;
+    let unit = made(alloc, &txn, &Names::new(alloc), &NO_FILE, 1 << 30)?;
     let bytes = unit.bytes.bytes();
     let after = Layout {
         file: 1,
@@ -115,24 +109,16 @@ fn greatest_becomes_a_unit(alloc: Global) -> Result<bool, PrintError> {
     Ok(
         unit.after == after
             && bytes.len() == 268435579
-            && part(bytes, 123, 132) == FIRST
-            && part(bytes, 268435552, 268435579) == LAST,
+            && stands_at(bytes, 123, FIRST)
+            && stands_at(bytes, 268435552, LAST),
     )
 }
 
 // Whether a print of a byte more becomes no unit, with its number and length.
 fn larger_becomes_none(alloc: Global) -> Result<bool, PrintError> {
-    let Some(txn) = of_large_rows(alloc, 2, LAST_BODY + 1)? else {
-        return Ok(false);
-    };
-    let refused = PrintError::TooLarge {
-        number: 2,
-        bytes: 268435457,
-    };
-    match unit(alloc, &txn, &Names::new(alloc), &NO_FILE, 1 << 30) {
-        Ok(_) => Ok(false),
-        Err(error) => Ok(error == refused),
-    }
+    let txn = of_large_rows(alloc, 2, LAST_BODY + 1)?;
+    let error = error_of(made(alloc, &txn, &Names::new(alloc), &NO_FILE, 1 << 30));
+    Ok(error == Some(REFUSED))
 }
 
 #[test]

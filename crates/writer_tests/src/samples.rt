@@ -8,7 +8,7 @@ use cdc_rename::Names;
 use cdc_samples::blobs::part;
 use cdc_samples::rows::{add_row, marked_row, one_row};
 use cdc_samples::rules::rule;
-use cdc_samples::transactions::{add_branch, no_branches, transaction};
+use cdc_samples::transactions::{add_branch, no_branches, shared, transaction};
 use std::alloc::Global;
 
 /// The print of a shared transaction without rows, at place 123.
@@ -53,6 +53,11 @@ pub fn begins_with_head(bytes: &[u8]) -> bool {
         && part(bytes, 79, 123) == HEAD_BACK
 }
 
+/// Whether these bytes stand there.
+pub fn stands_at(bytes: &[u8], at: usize, want: &[u8]) -> bool {
+    part(bytes, at, at.saturating_add(want.len())) == want
+}
+
 /// A branch more with one marked text, unless the text is empty or longer than 1,000 bytes.
 pub fn add_text(
     alloc: Global,
@@ -70,34 +75,57 @@ pub fn add_text(
     add_branch(branches, key, rows.finish(alloc)?)
 }
 
+// Branches with these texts, and one with rows where it is asked for.
+fn branches_of(alloc: Global, key: &Key, texts: &[&[u8]], rows: bool) -> Result<BranchList, Memory>
+    requires { IsKeptKey key.now }
+{
+    let mut branches = no_branches(alloc);
+    for text in texts {
+        add_text(alloc, &mut branches, key, text)?;
+    }
+    if rows {
+        add_branch(&mut branches, key, one_row(alloc, VALUE)?)?;
+    }
+    Ok(branches)
+}
+
 /// A shared transaction of branches with these texts, and of one with rows where it is asked for.
 pub fn transaction_of(
     alloc: Global,
     number: u64,
-    key: &Key,
-    first: &[u8],
-    second: &[u8],
-    third: &[u8],
+    timestamp: u64,
+    id: &[u8],
+    texts: &[&[u8]],
     rows: bool,
-) -> Result<Txn, Memory>
-    requires { IsKeptKey key.now }
-{
-    let mut branches = no_branches(alloc);
-    add_text(alloc, &mut branches, key, first)?;
-    add_text(alloc, &mut branches, key, second)?;
-    add_text(alloc, &mut branches, key, third)?;
-    if rows {
-        add_branch(&mut branches, key, one_row(alloc, VALUE)?)?;
+) -> Result<Txn, Memory> {
+    if timestamp >= 1 << 63 {
+        return Err(Memory);
     }
-    Ok(transaction(number, key, branches))
+    let Some(key) = shared(timestamp, id) else {
+        return Err(Memory);
+    };
+    let branches = branches_of(alloc, &key, texts, rows)?;
+    Ok(transaction(number, &key, branches))
 }
 
-/// Rules that rename d1.t1; none where the rule isn't taken.
-pub fn renaming(alloc: Global) -> Result<Option<Names>, Memory> {
+/// A local transaction without rows, whose print has 139 bytes.
+pub fn local(alloc: Global, number: u64) -> Txn {
+    let key = Key::Plain {
+        timestamp: 5,
+        node: 1,
+        entry: 2,
+    };
+    transaction(number, &key, no_branches(alloc))
+}
+
+/// Rules that rename d1.t1, or none.
+pub fn rules(alloc: Global, renaming: bool) -> Result<Names, Memory> {
     let mut names = Names::new(alloc);
-    let rule = rule(alloc, "d1", "t1", "shop", "orders")?;
-    if names.add(rule).is_err() {
-        return Ok(None);
+    if renaming {
+        let rule = rule(alloc, "d1", "t1", "shop", "orders")?;
+        if names.add(rule).is_err() {
+            return Err(Memory);
+        }
     }
-    Ok(Some(names))
+    Ok(names)
 }

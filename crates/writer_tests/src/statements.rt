@@ -5,7 +5,7 @@ ghost use Rattle.cdc_model.specs.Kept.{IsKeptKey};
 use crate::printed::printed;
 use crate::samples::add_text;
 use cdc_base::{Key, Memory};
-use cdc_model::Txn;
+use cdc_model::BranchList;
 use cdc_rename::Names;
 use cdc_samples::transactions::{no_branches, shared, transaction};
 use cdc_writer::PrintError;
@@ -15,8 +15,8 @@ use std::test::Fail;
 /// How many different statements there are, each of two branches.
 const STATEMENTS: u32 = 20_000;
 
-// A transaction with the statements of all numbers, one behind another, and then all of them once more.
-fn of_statements(alloc: Global, key: &Key) -> Result<Txn, Memory>
+// Branches with the statements of all numbers, one behind another, and then all of them once more.
+fn of_statements(alloc: Global, key: &Key) -> Result<BranchList, Memory>
     requires { IsKeptKey key.now }
 {
     let mut branches = no_branches(alloc);
@@ -25,23 +25,22 @@ fn of_statements(alloc: Global, key: &Key) -> Result<Txn, Memory>
         let text = format!(in alloc; "DDL::d::{number:05}")?;
         add_text(alloc, &mut branches, key, text.as_bytes())?;
     }
-    Ok(transaction(1, key, branches))
+    Ok(branches)
 }
 
-// How many bytes its print has.
-fn printed_bytes(alloc: Global) -> Result<Option<usize>, PrintError> {
+// How many bytes the print of a transaction of them has.
+fn printed_bytes(alloc: Global) -> Result<usize, PrintError> {
     let Some(key) = shared(10, b"g1") else {
-        return Ok(None);
+        return Err(PrintError::Memory);
     };
-    let txn = of_statements(alloc, &key)?;
-    let buffer = printed(alloc, &txn, &Names::new(alloc), 123, b"")?;
-    Ok(Some(buffer.len()))
+    let txn = transaction(1, &key, of_statements(alloc, &key)?);
+    Ok(printed(alloc, &txn, &Names::new(alloc), b"")?.len())
 }
 
 // The mark has 53 bytes, and each statement's event 33 beside a database of one byte and a text of five.
 #[test]
 fn thousands_of_statements_are_printed_once_each(rt: HostRuntime) -> Result<(), Fail> {
-    let bytes = printed_bytes(rt.alloc())?.ok_or("a key")?;
+    let bytes = printed_bytes(rt.alloc())?;
     assert_eq!(rt; bytes, 53 + 20_000 * 39);
     Ok(())
 }
