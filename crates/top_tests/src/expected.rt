@@ -60,10 +60,7 @@ fn push_begin(file: &mut Buffer) -> Result<(), Memory> {
 // The event of a mark.
 fn push_mark(alloc: Global, file: &mut Buffer, mark: &[u8]) -> Result<(), Memory> {
     let mut body = Buffer::new(alloc);
-    match u8::try_from(mark.len()) {
-        Ok(length) => body.push(&[length])?,
-        Err(_) => body.push(&[255])?,
-    }
+    body.push(&[u8::try_from(mark.len()).unwrap_or(255)])?;
     body.push(mark)?;
     push_event(file, 29, body.bytes())
 }
@@ -200,22 +197,39 @@ pub fn printed(alloc: Global, words: &str) -> Result<Buffer, Fail> {
     Ok(file)
 }
 
+/// The two files of an out.
+#[derive(Drop)]
+pub struct Files {
+    pub first: Buffer,
+    pub second: Buffer,
+}
+
 /// The two files of transactions in words, the second without a byte where there is none: behind a `>` the first one is closed, at
 /// 359 bytes.
-pub fn two_files(alloc: Global, words: &str) -> Result<[Buffer; 2], Fail> {
+pub fn two_files(alloc: Global, words: &str) -> Result<Files, Fail> {
     let mut first = Buffer::new(alloc);
     let mut second = Buffer::new(alloc);
     match words.split_once(">") {
-        Some((words, rest)) => {
-            let number = push_file(alloc, &mut first, 0, words)?;
-            first.push(ROTATE)?;
-            push_file(alloc, &mut second, number, rest)?;
-        }
+        Some((words, rest)) => push_files(alloc, &mut first, &mut second, words, rest)?,
         None => {
             push_file(alloc, &mut first, 0, words)?;
         }
     }
-    Ok([first, second])
+    Ok(Files { first, second })
+}
+
+// A file that is closed, and the one behind it.
+fn push_files(
+    alloc: Global,
+    first: &mut Buffer,
+    second: &mut Buffer,
+    words: &str,
+    rest: &str,
+) -> Result<(), Fail> {
+    let number = push_file(alloc, first, 0, words)?;
+    first.push(ROTATE)?;
+    push_file(alloc, second, number, rest)?;
+    Ok(())
 }
 
 /// The line of an answer, none where there is no text.

@@ -1,12 +1,21 @@
 //! Sources that fail.
 
-use crate::call::{Seen, call_of, print_all, source_of};
+use crate::call::{Seen, print_all};
 use crate::expected::printed;
+use crate::nodes::source_of;
 use cdc_base::Memory;
 use cdc_memory::MemSource;
 use cdc_samples::Log;
 use std::alloc::Global;
 use std::test::Fail;
+
+// A source of this log, which fails at this call if it is to fail.
+fn source_with(alloc: Global, log: &[u8], failing: bool, call: u64) -> Result<MemSource, Memory> {
+    if failing {
+        return source_of(alloc, log, &[call]);
+    }
+    source_of(alloc, log, &[])
+}
 
 // Sources of `count` nodes with this log, of which those of the two nodes fail at one call. Nodes are counted from 1.
 fn nodes_with(
@@ -18,12 +27,8 @@ fn nodes_with(
 ) -> Result<Vec<MemSource>, Memory> {
     let mut nodes = Vec::new(alloc);
     for number in 1..=count {
-        let source = if number == failing.0 || number == failing.1 {
-            source_of(alloc, log, &[call])?
-        } else {
-            source_of(alloc, log, &[])?
-        };
-        nodes.push(source)?;
+        let fails = number == failing.0 || number == failing.1;
+        nodes.push(source_with(alloc, log, fails, call)?)?;
     }
     Ok(nodes)
 }
@@ -35,21 +40,26 @@ fn print_failing(
     count: u32,
     failing: (u32, u32),
     call: u64,
-) -> Result<Seen, Memory> {
-    let nodes = nodes_with(alloc, log, count, failing, call)?;
-    print_all(alloc, call_of(alloc, nodes))
+) -> Result<Seen, Fail> {
+    let mut nodes = nodes_with(alloc, log, count, failing, call)?;
+    print_all(alloc, &mut nodes)
+}
+
+// Whether a call of one of two sources is behind all that it is asked for, so that nothing fails.
+fn is_behind(alloc: Global, log: &[u8], node: u32, line: &[u8], call: u64) -> Result<bool, Fail> {
+    let seen = print_failing(alloc, log, 2, (node, node), call)?;
+    if seen.status != 0 && !seen.is(4, b"", line) {
+        return Err("a failing source is told otherwise")?;
+    }
+    Ok(seen.status == 0)
 }
 
 // How many calls a source is asked for; behind them nothing can fail. A log of one read has three at least: the number
 // of files, the length of the first and its bytes.
 fn failing_calls(alloc: Global, log: &[u8], node: u32, line: &[u8]) -> Result<u64, Fail> {
     for call in 1..=100u64 {
-        let seen = print_failing(alloc, log, 2, (node, node), call)?;
-        if seen.status == 0 {
+        if is_behind(alloc, log, node, line, call)? {
             return Ok(call - 1);
-        }
-        if !seen.is(4, b"", line) {
-            return Err("a failing source is told otherwise")?;
         }
     }
     Err("no end of calls")?

@@ -27,6 +27,8 @@ mod many;
 #[cfg(test)]
 mod node_tests;
 #[cfg(test)]
+mod nodes;
+#[cfg(test)]
 mod pass_row_tests;
 #[cfg(test)]
 mod pass_table;
@@ -38,6 +40,8 @@ mod piece_tests;
 mod resume_tests;
 #[cfg(test)]
 mod row_tests;
+#[cfg(test)]
+mod service;
 #[cfg(test)]
 mod sink_tests;
 #[cfg(test)]

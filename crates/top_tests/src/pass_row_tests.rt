@@ -1,9 +1,10 @@
 //! Rows of `run` that were worked out by hand: what one pass publishes, and passes over logs that grow.
 
+use crate::nodes::node_of_no_file;
 use crate::pass_table::{passes, passes_in_order};
-use crate::passing::{PLAIN, Service, Settings};
+use crate::passing::{PLAIN, Settings, call_with, run};
 use crate::row_tests::PROFILE;
-use cdc_memory::MemSource;
+use crate::service::Service;
 use std::alloc::Global;
 use std::test::Fail;
 
@@ -33,9 +34,9 @@ H P(g1)/M F1 T(10)+ K(g1)+=0=binlog.000001 241 1=10:6731=";
 /// Whether two passes over a line's logs, one behind the other, both give what it says, into so many outs.
 fn is_right(alloc: Global, settings: &Settings, outs: usize, row: &str) -> Result<bool, Fail> {
     let mut service = Service::empty(alloc, outs)?;
-    let (first, _lowest) = passes(alloc, settings, &mut service, row)?;
-    let (second, _lowest) = passes(alloc, settings, &mut service, row)?;
-    Ok(first && second)
+    let first = passes(alloc, settings, &mut service, row)?;
+    let second = passes(alloc, settings, &mut service, row)?;
+    Ok(first.right && second.right)
 }
 
 #[test]
@@ -56,12 +57,17 @@ fn ids_of_transactions_and_checksums_are_passed_over(rt: HostRuntime) -> Result<
     Ok(())
 }
 
+/// Whether a pass in this order gives what a line says, into two outs.
+fn is_right_in_order(alloc: Global, row: &str, order: u64) -> Result<bool, Fail> {
+    let mut service = Service::empty(alloc, 2)?;
+    passes_in_order(alloc, &PLAIN, &mut service, row, order)
+}
+
 #[test]
 fn every_order_publishes_the_same(rt: HostRuntime) -> Result<(), Fail> {
     for row in ROWS.lines() {
         for order in 0..10u64 {
-            let mut service = Service::empty(rt.alloc(), 2)?;
-            let right = passes_in_order(rt.alloc(), &PLAIN, &mut service, row, order)?;
+            let right = is_right_in_order(rt.alloc(), row, order)?;
             assert!(rt; right, "order {order}: {row}");
         }
     }
@@ -72,9 +78,8 @@ fn every_order_publishes_the_same(rt: HostRuntime) -> Result<(), Fail> {
 fn a_node_of_no_file_has_no_transactions(rt: HostRuntime) -> Result<(), Fail> {
     let mut service = Service::empty(rt.alloc(), 1)?;
     for _pass in 0..2_u8 {
-        let mut nodes = Vec::new(rt.alloc());
-        nodes.push(MemSource::new(rt.alloc(), &[], &[])?)?;
-        let seen = service.run(rt.alloc(), &PLAIN, &mut nodes)?;
+        let mut nodes = node_of_no_file(rt.alloc())?;
+        let seen = run(rt.alloc(), &PLAIN, &mut service, &mut nodes)?;
         assert!(rt; seen.is(0, b"out 1 - 0 0\n", b""));
     }
     Ok(())
@@ -121,8 +126,7 @@ H B(10) L B(11)|H B(10) L B(11)=0=binlog.000001 401 2=10@1.2 10@2.2=";
 fn grow(alloc: Global, settings: &Settings, rows: &str) -> Result<bool, Fail> {
     let mut service = Service::empty(alloc, 1)?;
     for row in rows.lines() {
-        let (right, _lowest) = passes(alloc, settings, &mut service, row)?;
-        if !right {
+        if !passes(alloc, settings, &mut service, row)?.right {
             return Ok(false);
         }
     }
@@ -136,18 +140,26 @@ fn passes_go_on_where_logs_have_grown(rt: HostRuntime) -> Result<(), Fail> {
     Ok(())
 }
 
+/// Configurations that are refused, and their lines.
+const REFUSED: [(&str, &str); 3] = [
+    ("rotation = 255", "cdc: config rotation\n"),
+    ("rotation = 256\nwindow = 4095", "cdc: config window\n"),
+    ("rotation", "cdc: config toml\n"),
+];
+
+/// Whether `run` refuses a configuration with this line.
+fn is_refused(alloc: Global, config: &str, line: &str) -> Result<bool, Fail> {
+    let mut service = Service::empty(alloc, 1)?;
+    let mut nodes = Vec::new(alloc);
+    let text = config.as_bytes();
+    let seen = call_with(alloc, "run c", text, &mut service, &mut nodes)?;
+    Ok(seen.is(2, b"", line.as_bytes()))
+}
+
 #[test]
 fn a_configuration_is_refused_for_its_first_key(rt: HostRuntime) -> Result<(), Fail> {
-    let rows: [(&[u8], &[u8]); 3] = [
-        (b"rotation = 255", b"cdc: config rotation\n"),
-        (b"rotation = 256\nwindow = 4095", b"cdc: config window\n"),
-        (b"rotation", b"cdc: config toml\n"),
-    ];
-    for (config, line) in rows {
-        let mut service = Service::empty(rt.alloc(), 1)?;
-        let mut nodes = Vec::new(rt.alloc());
-        let seen = service.call(rt.alloc(), &["run", "c"], config, &mut nodes)?;
-        assert!(rt; seen.is(2, b"", line), "{line:?}");
+    for (config, line) in REFUSED {
+        assert!(rt; is_refused(rt.alloc(), config, line)?, "{line}");
     }
     Ok(())
 }

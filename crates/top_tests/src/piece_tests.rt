@@ -1,11 +1,29 @@
 //! Logs that are cut, and groups that lie over two reads.
 
-use crate::call::{Seen, print_one};
+use crate::call::{Seen, print_all};
 use crate::expected::printed;
-use cdc_base::{Buffer, Memory};
+use crate::nodes::node_failing;
+use cdc_base::Buffer;
 use cdc_samples::{Log, NotMade};
 use std::alloc::Global;
 use std::test::Fail;
+
+// Prints the log of one node.
+fn print_one(alloc: Global, file: &[u8]) -> Result<Seen, Fail> {
+    let mut nodes = node_failing(alloc, file, &[])?;
+    print_all(alloc, &mut nodes)
+}
+
+// Whether a front of so many bytes gave what is whole in it.
+fn is_whole(seen: &Seen, cut: usize, one: &[u8], two: &[u8]) -> bool {
+    if cut < 349 {
+        seen.is(0, b"", b"")
+    } else if cut < 575 {
+        seen.is(0, one, b"")
+    } else {
+        seen.is(0, two, b"")
+    }
+}
 
 // Whether a front of a log of two transactions gives what is whole in it: the first is whole from 349 bytes on, the
 // second from 575 on.
@@ -15,15 +33,9 @@ fn is_cut_right(
     cut: usize,
     one: &Buffer,
     two: &Buffer,
-) -> Result<bool, Memory> {
+) -> Result<bool, Fail> {
     let seen = print_one(alloc, log.get(..cut).unwrap_or(log))?;
-    Ok(if cut < 349 {
-        seen.is(0, b"", b"")
-    } else if cut < 575 {
-        seen.is(0, one.bytes(), b"")
-    } else {
-        seen.is(0, two.bytes(), b"")
-    })
+    Ok(is_whole(&seen, cut, one.bytes(), two.bytes()))
 }
 
 #[test]
@@ -43,14 +55,14 @@ const ZEROS: [u8; 65_536] = [0; 65_536];
 
 // A log whose branch begins so many bytes before the byte 65,536: a head of 123 bytes, an event that is passed over,
 // whose header has 19, then a branch of 217 bytes with a row and its commit of 84.
-fn print_before(alloc: Global, before: usize) -> Result<Seen, NotMade> {
+fn log_before(alloc: Global, before: usize) -> Result<Log, NotMade> {
     let filler = 65_536usize.saturating_sub(142).saturating_sub(before);
     let mut log = Log::new(alloc);
     log.head()?;
     log.push_event(3, ZEROS.get(..filler).unwrap_or(&[]), &[])?;
     log.prepare_row(b"g1", 1)?;
     log.commit(b"g1", 10)?;
-    Ok(print_one(alloc, log.bytes())?)
+    Ok(log)
 }
 
 // A read has at most 65,536 bytes.
@@ -58,7 +70,8 @@ fn print_before(alloc: Global, before: usize) -> Result<Seen, NotMade> {
 fn a_branch_lies_over_two_reads_at_each_byte(rt: HostRuntime) -> Result<(), Fail> {
     let want = printed(rt.alloc(), "10:6731+")?;
     for before in 0..=301 {
-        let seen = print_before(rt.alloc(), before)?;
+        let log = log_before(rt.alloc(), before)?;
+        let seen = print_one(rt.alloc(), log.bytes())?;
         assert!(rt; seen.is(0, want.bytes(), b""), "{before} bytes");
     }
     Ok(())

@@ -1,11 +1,11 @@
 //! Passes that go on from what the last one kept: from where they read, what they keep, and what they refuse.
 
-use crate::call::{source_in, source_of};
 use crate::expected::printed;
 use crate::listing::{ONE_FILE, SHORT_SLOT};
+use crate::nodes::{node_failing, nodes_of};
 use crate::pass_table::{gives, passes};
-use crate::passing::{PLAIN, Service, Settings, disk_failing, has_file, put};
-use cdc_base::Place;
+use crate::passing::{PLAIN, Settings, run};
+use crate::service::{Service, disk_failing, has_file, put};
 use cdc_memory::MemSource;
 use cdc_outside::DiskFile;
 use cdc_samples::Log;
@@ -36,17 +36,22 @@ const SECOND_POINT: &[u8] = b"\x01\x08\0\0\0\0\0\0\0\x55\0\0\0\0\0\0\0\
 \x06\0\0\0\0\0\0\0\x01\0\0\0\x5b\x02\0\0\0\0\0\0\x14\0\0\0\0\0\0\0\0\
 \0\0\0\0\0\0\0\0";
 
-/// The place of a byte of file 1.
-fn at(byte: u64) -> Option<Place> {
-    Some(Place { file: 1, at: byte })
+/// Whether a pass gives what a line says, and reads its first node from this byte on.
+fn passes_from(alloc: Global, service: &mut Service, row: &str, at: u64) -> Result<bool, Fail> {
+    Ok(passes(alloc, &PLAIN, service, row)?.is_from(at))
+}
+
+/// Whether a pass gives what a line says.
+fn is_right(alloc: Global, service: &mut Service, row: &str) -> Result<bool, Fail> {
+    Ok(passes(alloc, &PLAIN, service, row)?.right)
 }
 
 #[test]
 fn a_pass_reads_on_from_the_checkpoint(rt: HostRuntime) -> Result<(), Fail> {
     let mut service = Service::empty(rt.alloc(), 1)?;
-    assert!(rt; passes(rt.alloc(), &PLAIN, &mut service, FIRST)? == (true, at(0)));
+    assert!(rt; passes_from(rt.alloc(), &mut service, FIRST, 0)?);
     assert!(rt; has_file(&mut service.task, DiskFile::SlotA, FIRST_POINT));
-    assert!(rt; passes(rt.alloc(), &PLAIN, &mut service, SECOND)? == (true, at(293)));
+    assert!(rt; passes_from(rt.alloc(), &mut service, SECOND, 293)?);
     assert!(rt; has_file(&mut service.task, DiskFile::SlotA, FIRST_POINT));
     assert!(rt; has_file(&mut service.task, DiskFile::SlotB, SECOND_POINT));
     Ok(())
@@ -57,12 +62,10 @@ fn logs_are_read_from_their_starts_for_an_output_that_is_behind(
     rt: HostRuntime,
 ) -> Result<(), Fail> {
     let mut service = Service::empty(rt.alloc(), 2)?;
-    assert!(rt; passes(rt.alloc(), &PLAIN, &mut service, FIRST)? == (true, at(0)));
-    match service.outs.get_mut(1) {
-        Some(out) => *out = disk_failing(rt.alloc(), &[])?,
-        None => return Err("no second out")?,
-    }
-    assert!(rt; passes(rt.alloc(), &PLAIN, &mut service, SECOND)? == (true, at(0)));
+    assert!(rt; passes_from(rt.alloc(), &mut service, FIRST, 0)?);
+    service.outs.truncate(1);
+    service.outs.push(disk_failing(rt.alloc(), &[])?)?;
+    assert!(rt; passes_from(rt.alloc(), &mut service, SECOND, 0)?);
     Ok(())
 }
 
@@ -70,22 +73,21 @@ fn logs_are_read_from_their_starts_for_an_output_that_is_behind(
 #[test]
 fn logs_that_are_not_those_of_the_checkpoint_are_refused(rt: HostRuntime) -> Result<(), Fail> {
     let mut service = Service::empty(rt.alloc(), 1)?;
-    assert!(rt; passes(rt.alloc(), &PLAIN, &mut service, FIRST)?.0);
-    let mut nodes = Vec::new(rt.alloc());
-    nodes.push(source_of_front(rt.alloc(), OPEN, 200)?)?;
+    assert!(rt; is_right(rt.alloc(), &mut service, FIRST)?);
+    let mut nodes = node_of_front(rt.alloc(), OPEN, 200)?;
     let row = "=7==10:6731=kept node 1 behind 1:293 1:200";
     assert!(rt; gives(rt.alloc(), &PLAIN, &mut service, &mut nodes, row)?);
     let row = "H P(g1) B(10) P(g2) C(g1,10)|H=7==10:6731=kept task nodes 1 2";
-    assert!(rt; passes(rt.alloc(), &PLAIN, &mut service, row)?.0);
-    assert!(rt; passes(rt.alloc(), &PLAIN, &mut service, SECOND)? == (true, at(293)));
+    assert!(rt; is_right(rt.alloc(), &mut service, row)?);
+    assert!(rt; passes_from(rt.alloc(), &mut service, SECOND, 293)?);
     Ok(())
 }
 
 /// A node whose log is the first so many bytes of these words' log.
-fn source_of_front(alloc: Global, words: &str, count: usize) -> Result<MemSource, Fail> {
+fn node_of_front(alloc: Global, words: &str, count: usize) -> Result<Vec<MemSource>, Fail> {
     let log = Log::of(alloc, words)?;
     let front = log.bytes().get(..count).ok_or("a shorter log")?;
-    Ok(source_of(alloc, front, &[])?)
+    Ok(node_failing(alloc, front, &[])?)
 }
 
 /// The slot of the checkpoint behind a branch in one file and its commit in the next one, which has checksums: number 4, 85 bytes;
@@ -100,7 +102,7 @@ const CHECKSUM_POINT: &[u8] = b"\x01\x04\0\0\0\0\0\0\0\x55\0\0\0\0\0\0\0\
 fn a_checkpoint_keeps_the_checksum_setting(rt: HostRuntime) -> Result<(), Fail> {
     let mut service = Service::empty(rt.alloc(), 1)?;
     let row = "H P(g1)/M F1 T(10)+ K(g1)+=0=binlog.000001 241 1=10:6731=";
-    assert!(rt; passes(rt.alloc(), &PLAIN, &mut service, row)?.0);
+    assert!(rt; is_right(rt.alloc(), &mut service, row)?);
     assert!(rt; has_file(&mut service.task, DiskFile::SlotA, CHECKSUM_POINT));
     Ok(())
 }
@@ -119,15 +121,21 @@ const SECOND_FRONT: &[u8] = b"\x01\x02\0\0\0\0\0\0\0\x36\0\0\0\0\0\0\0\
 \x02\x02\0\0\0\0\0\0\0\x01\0\0\0\0\0\0\0\x67\x01\0\0\0\0\0\0\0\
 \x01\0\0\0\0\0\0\0\0\0\0\0\0\0\0\0\x14\0\0\0\0\0\0\0\0\x02g2";
 
-/// A service whose output has one transaction under a Front of version 1.
-fn old_service(alloc: Global) -> Result<Service, Fail> {
+/// A service whose output has this slot, and so many bytes of one transaction's file.
+fn service_with(alloc: Global, slot: &[u8], length: usize) -> Result<Service, Fail> {
     let mut service = Service::empty(alloc, 1)?;
     let file = printed(alloc, "10:6731")?;
+    let bytes = file.bytes().get(..length).ok_or("a shorter file")?;
     for out in &mut service.outs {
-        put(out, DiskFile::Log(1), file.bytes())?;
-        put(out, DiskFile::SlotA, &ONE_FILE)?;
+        put(out, DiskFile::Log(1), bytes)?;
+        put(out, DiskFile::SlotA, slot)?;
     }
     Ok(service)
+}
+
+/// A service whose output has one transaction under a Front of version 1.
+fn old_service(alloc: Global) -> Result<Service, Fail> {
+    service_with(alloc, ONE_FILE, 241)
 }
 
 #[test]
@@ -135,7 +143,7 @@ fn records_of_the_first_version_are_gone_on_with(rt: HostRuntime) -> Result<(), 
     let mut service = old_service(rt.alloc())?;
     put(&mut service.task, DiskFile::SlotA, OLD_POINT)?;
     let row = "H P(g1) C(g1,10) P(g2) C(g2,20)=0=binlog.000001 359 2=10:6731 20:6732=";
-    assert!(rt; passes(rt.alloc(), &PLAIN, &mut service, row)? == (true, at(349)));
+    assert!(rt; passes_from(rt.alloc(), &mut service, row, 349)?);
     for out in &mut service.outs {
         assert!(rt; has_file(out, DiskFile::SlotB, SECOND_FRONT));
     }
@@ -148,13 +156,13 @@ fn records_of_the_first_version_are_gone_on_with(rt: HostRuntime) -> Result<(), 
 fn an_output_of_other_transactions_is_refused(rt: HostRuntime) -> Result<(), Fail> {
     let mut old = old_service(rt.alloc())?;
     let row = "H P(g11) C(g11,10) P(g2) C(g2,20)=7==10:6731=kept out 1 differs 1:241 1:243";
-    assert!(rt; passes(rt.alloc(), &PLAIN, &mut old, row)?.0);
+    assert!(rt; is_right(rt.alloc(), &mut old, row)?);
     let mut service = Service::empty(rt.alloc(), 1)?;
     let row = "H P(g1) C(g1,10)=0=binlog.000001 241 1=10:6731=";
-    assert!(rt; passes(rt.alloc(), &PLAIN, &mut service, row)?.0);
+    assert!(rt; is_right(rt.alloc(), &mut service, row)?);
     service.task = disk_failing(rt.alloc(), &[])?;
     let row = "H P(g2) C(g2,10)=7==10:6731=kept out 1 key 10,0,6731 10,0,6732";
-    assert!(rt; passes(rt.alloc(), &PLAIN, &mut service, row)?.0);
+    assert!(rt; is_right(rt.alloc(), &mut service, row)?);
     Ok(())
 }
 
@@ -168,31 +176,26 @@ const LONGER_FILES: Settings<'static> = Settings {
 fn another_rotation_size_is_refused(rt: HostRuntime) -> Result<(), Fail> {
     let mut service = Service::empty(rt.alloc(), 1)?;
     let row = "H P(g1) C(g1,10)=0=binlog.000001 241 1=10:6731=";
-    assert!(rt; passes(rt.alloc(), &PLAIN, &mut service, row)?.0);
+    assert!(rt; is_right(rt.alloc(), &mut service, row)?);
     let row = "H P(g1) C(g1,10)=7==10:6731=kept task rotation 536870912 512";
-    assert!(rt; passes(rt.alloc(), &LONGER_FILES, &mut service, row)?.0);
+    assert!(rt; passes(rt.alloc(), &LONGER_FILES, &mut service, row)?.right);
     Ok(())
+}
+
+/// Whether an output of this slot and file is refused with this line.
+fn is_refused(alloc: Global, slot: &[u8], length: usize, line: &[u8]) -> Result<bool, Fail> {
+    let mut service = service_with(alloc, slot, length)?;
+    let mut nodes = nodes_of(alloc, "H P(g1) C(g1,10)")?;
+    let seen = run(alloc, &PLAIN, &mut service, &mut nodes)?;
+    Ok(seen.is(7, b"", line))
 }
 
 // A slot that is cut short, and a file that is shorter than its Front says.
 #[test]
 fn an_output_that_is_broken_is_refused(rt: HostRuntime) -> Result<(), Fail> {
-    let rows: [(&[u8], usize, &[u8]); 2] = [
-        (&SHORT_SLOT, 0, b"cdc: kept out 1 bad cell\n"),
-        (&ONE_FILE, 240, b"cdc: kept out 1 bad front 241 240\n"),
-    ];
-    let file = printed(rt.alloc(), "10:6731")?;
-    for (slot, length, line) in rows {
-        let mut service = Service::empty(rt.alloc(), 1)?;
-        let bytes = file.bytes().get(..length).ok_or("a shorter file")?;
-        for out in &mut service.outs {
-            put(out, DiskFile::Log(1), bytes)?;
-            put(out, DiskFile::SlotA, slot)?;
-        }
-        let mut nodes = Vec::new(rt.alloc());
-        nodes.push(source_in(rt.alloc(), "H P(g1) C(g1,10)")?)?;
-        let seen = service.run(rt.alloc(), &PLAIN, &mut nodes)?;
-        assert!(rt; seen.is(7, b"", line), "{line:?}");
-    }
+    let line = b"cdc: kept out 1 bad cell\n";
+    assert!(rt; is_refused(rt.alloc(), SHORT_SLOT, 0, line)?);
+    let line = b"cdc: kept out 1 bad front 241 240\n";
+    assert!(rt; is_refused(rt.alloc(), ONE_FILE, 240, line)?);
     Ok(())
 }

@@ -1,12 +1,12 @@
 //! Passes that stop: a disk at each of its calls, each outcome of the crash, and a pass behind it; devices that fail once.
 
-use crate::call::source_of;
-use crate::expected::two_files;
-use crate::passing::{Service, Settings, disk_failing, has_file};
+use crate::expected::{Files, two_files};
+use crate::nodes::node_failing;
+use crate::pass_table::has_both;
+use crate::passing::{Settings, run};
+use crate::service::{Service, disk_failing, disk_stopping};
 use crate::untold_disk::UntoldDisk;
-use cdc_base::{Buffer, Memory};
-use cdc_memory::MemSource;
-use cdc_outside::DiskFile;
+use cdc_base::Memory;
 use cdc_samples::Log;
 use std::alloc::Global;
 use std::test::Fail;
@@ -30,11 +30,11 @@ const LINES: &[u8] = b"out 1 binlog.000002 241 3\nout 2 binlog.000002 241 3\n";
 const CALLS: u64 = 400;
 
 /// A disk of a service of two outs: that of an out, or behind them that of the task.
-#[derive(Clone, Copy, Debug)]
+#[derive(Clone, Copy)]
 struct Which(usize);
 
-/// All three.
-const DISKS: [Which; 3] = [Which(0), Which(1), Which(2)];
+/// How many they are.
+const DISKS: usize = 3;
 
 /// A service of two outs with a disk in the place of one of its own.
 fn service_with(alloc: Global, which: Which, disk: UntoldDisk) -> Result<Service, Memory> {
@@ -58,47 +58,53 @@ fn faults_of(service: &Service, which: Which) -> u64 {
 /// lines and nothing else.
 fn pass(alloc: Global, fails: &[u64], service: &mut Service) -> Result<(u8, bool), Fail> {
     let log = Log::of(alloc, LOG)?;
-    let mut nodes: Vec<MemSource> = Vec::new(alloc);
-    nodes.push(source_of(alloc, log.bytes(), fails)?)?;
-    let seen = service.run(alloc, &SETTINGS, &mut nodes)?;
-    Ok((seen.status, seen.out.written() == LINES))
+    let mut nodes = node_failing(alloc, log.bytes(), fails)?;
+    let seen = run(alloc, &SETTINGS, service, &mut nodes)?;
+    Ok((seen.status, seen.out.as_slice() == LINES))
 }
 
 /// Whether all outs have both files.
-fn are_whole(service: &mut Service, wanted: &[Buffer; 2]) -> bool {
-    for out in &mut service.outs {
-        if !has_file(out, DiskFile::Log(1), wanted[0].bytes())
-            || !has_file(out, DiskFile::Log(2), wanted[1].bytes())
-        {
+fn are_whole(outs: &mut Vec<UntoldDisk>, wanted: &Files) -> bool {
+    for out in outs {
+        if !has_both(out, wanted) {
             return false;
         }
     }
     true
 }
 
-/// A pass behind each outcome of a crash of these disks publishes all.
+/// Whether a pass behind this outcome of a crash of these disks publishes all.
+fn goes_on_from(alloc: Global, service: &Service, pick: u8, wanted: &Files) -> Result<bool, Fail> {
+    let mut left = service.after_crash(alloc, pick)?;
+    let whole = pass(alloc, &[], &mut left)? == (0, true);
+    Ok(whole && are_whole(&mut left.outs, wanted))
+}
+
+/// Whether a pass behind each outcome of a crash of these disks publishes all.
 fn goes_on(alloc: Global, service: &Service) -> Result<bool, Fail> {
     let wanted = two_files(alloc, FILES)?;
     for pick in 0..4_u8 {
-        let mut left = service.after_crash(alloc, pick)?;
-        if pass(alloc, &[], &mut left)? != (0, true) || !are_whole(&mut left, &wanted) {
+        if !goes_on_from(alloc, service, pick, &wanted)? {
             return Ok(false);
         }
     }
     Ok(true)
 }
 
+/// Whether a pass came to its end with both lines, or to this status without them.
+fn is_answer(status: u8, lines: bool, failed: u8) -> bool {
+    if lines { status == 0 } else { status == failed }
+}
+
 /// One disk stops at this call; whether the pass came to its end before, and else whether a pass behind each crash goes on.
 fn stop_at(alloc: Global, which: Which, call: u64) -> Result<(bool, bool), Fail> {
-    let mut disk = disk_failing(alloc, &[])?;
-    disk.disk.stop_at(call);
+    let disk = disk_stopping(alloc, call)?;
     let mut service = service_with(alloc, which, disk)?;
     let (status, lines) = pass(alloc, &[], &mut service)?;
-    match (status, lines) {
-        (0, true) => Ok((true, goes_on(alloc, &service)?)),
-        (5, false) => Ok((false, goes_on(alloc, &service)?)),
-        _ => Err("another answer")?,
+    if !is_answer(status, lines, 5) {
+        return Err("another answer")?;
     }
+    Ok((lines, goes_on(alloc, &service)?))
 }
 
 /// How many calls of a disk a pass makes before none is stopped.
@@ -117,9 +123,9 @@ fn stops_of(alloc: Global, which: Which) -> Result<u64, Fail> {
 
 #[test]
 fn a_pass_goes_on_behind_each_stop_of_each_disk(rt: HostRuntime) -> Result<(), Fail> {
-    for which in DISKS {
-        let stops = stops_of(rt.alloc(), which)?;
-        assert!(rt; stops > 10, "{which:?}");
+    for disk in 0..DISKS {
+        let stops = stops_of(rt.alloc(), Which(disk))?;
+        assert!(rt; stops > 10, "disk {disk}");
     }
     Ok(())
 }
@@ -149,9 +155,9 @@ fn failures_of(alloc: Global, which: Which) -> Result<u64, Fail> {
 
 #[test]
 fn a_pass_goes_on_behind_each_failure_of_each_disk(rt: HostRuntime) -> Result<(), Fail> {
-    for which in DISKS {
-        let failures = failures_of(rt.alloc(), which)?;
-        assert!(rt; failures > 10, "{which:?}");
+    for disk in 0..DISKS {
+        let failures = failures_of(rt.alloc(), Which(disk))?;
+        assert!(rt; failures > 10, "disk {disk}");
     }
     Ok(())
 }
@@ -163,11 +169,10 @@ fn fail_source(alloc: Global, call: u64) -> Result<bool, Fail> {
     if !goes_on(alloc, &service)? {
         return Err("something is lost or doubled")?;
     }
-    match (status, lines) {
-        (0, true) => Ok(true),
-        (4, false) => Ok(false),
-        _ => Err("another answer")?,
+    if !is_answer(status, lines, 4) {
+        return Err("another answer")?;
     }
+    Ok(lines)
 }
 
 /// How many calls of the source a pass makes before none fails.

@@ -1,8 +1,8 @@
 //! Whose turn it is, by the schedule.
 
-use crate::call::source_of;
 use crate::clocked_source::ClockedSource;
-use crate::passing::disk_failing;
+use crate::nodes::source_of;
+use crate::service::disk_failing;
 use crate::untold_disk::UntoldDisk;
 use cdc_config::plan_of;
 use cdc_gen::logs_of;
@@ -34,11 +34,11 @@ fn clocked_nodes(alloc: Global) -> Result<Vec<ClockedSource<MemSource>>, Fail> {
     Ok(nodes)
 }
 
-/// What a pass came to: the number of each node's first read, and the output's file.
+/// What a pass came to: whether it was done, the number of each node's first read, and the output's file.
 #[derive(Drop)]
 struct Passed {
-    outcome: Outcome,
-    firsts: Vec<Option<u64>>,
+    done: bool,
+    firsts: Vec<u64>,
     file: Vec<u8>,
 }
 
@@ -52,51 +52,62 @@ fn file_of(alloc: Global, out: &mut UntoldDisk) -> Result<Vec<u8>, Fail> {
     Ok(file)
 }
 
-/// A pass whose schedule has 1,000 times the same number.
-fn pass_by(alloc: Global, turn: u32) -> Result<Passed, Fail> {
+/// One empty output.
+fn outs_of(alloc: Global) -> Result<Vec<UntoldDisk>, Fail> {
+    let disk = MemDisk::new(alloc, 2, ROOM, 4_000, &[])?;
+    let mut outs = Vec::new(alloc);
+    outs.push(UntoldDisk { disk })?;
+    Ok(outs)
+}
+
+/// Whether a pass over these nodes, whose schedule has 1,000 times the same number, is done.
+fn is_done(
+    alloc: Global,
+    nodes: &mut Vec<ClockedSource<MemSource>>,
+    outs: &mut Vec<UntoldDisk>,
+    turn: u32,
+) -> Result<bool, Fail> {
     let Ok(plan) = plan_of(alloc, CONFIG) else {
         return Err("no plan")?;
     };
-    let mut nodes = clocked_nodes(alloc)?;
-    let mut outs = Vec::new(alloc);
-    outs.push(UntoldDisk {
-        disk: MemDisk::new(alloc, 2, ROOM, 4_000, &[])?,
-    })?;
-    let mut task = disk_failing(alloc, &[])?;
     if nodes.len() != plan.nodes as usize || outs.len() != plan.outs as usize {
         return Err("another plan")?;
     }
+    let mut task = disk_failing(alloc, &[])?;
     let schedule = vec![in alloc; turn; 1_000]?;
-    let outcome = run(
-        alloc,
-        &plan,
-        &mut nodes,
-        &mut outs,
-        &mut task,
-        schedule.as_slice(),
-    );
+    let outcome = run(alloc, &plan, nodes, outs, &mut task, schedule.as_slice());
+    Ok(outcome == Outcome::Done)
+}
+
+/// The number of each node's first read, `u64::MAX` where it had none.
+fn firsts_of(alloc: Global, nodes: &Vec<ClockedSource<MemSource>>) -> Result<Vec<u64>, Fail> {
     let mut firsts = Vec::new(alloc);
-    for node in &nodes {
-        firsts.push(node.first())?;
+    for node in nodes {
+        firsts.push(node.first().unwrap_or(u64::MAX))?;
     }
+    Ok(firsts)
+}
+
+/// A pass whose schedule has 1,000 times the same number.
+fn pass_by(alloc: Global, turn: u32) -> Result<Passed, Fail> {
+    let mut nodes = clocked_nodes(alloc)?;
+    let mut outs = outs_of(alloc)?;
+    let done = is_done(alloc, &mut nodes, &mut outs, turn)?;
+    let firsts = firsts_of(alloc, &nodes)?;
     let Some(out) = outs.get_mut(0) else {
         return Err("no output")?;
     };
     let file = file_of(alloc, out)?;
-    Ok(Passed {
-        outcome,
-        firsts,
-        file,
-    })
+    Ok(Passed { done, firsts, file })
 }
 
 #[test]
 fn the_schedule_says_who_reads_first(rt: HostRuntime) -> Result<(), Fail> {
     let first = pass_by(rt.alloc(), 0)?;
     let second = pass_by(rt.alloc(), 1)?;
-    assert!(rt; first.outcome == Outcome::Done && second.outcome == Outcome::Done);
-    assert!(rt; first.firsts.as_slice() == [Some(0), Some(1)].as_slice());
-    assert!(rt; second.firsts.as_slice() == [Some(1), Some(0)].as_slice());
+    assert!(rt; first.done && second.done);
+    assert!(rt; first.firsts.as_slice() == [0, 1].as_slice());
+    assert!(rt; second.firsts.as_slice() == [1, 0].as_slice());
     assert!(rt; first.file.len() == 282_263 && first.file.as_slice() == second.file.as_slice());
     Ok(())
 }
